@@ -1,0 +1,5 @@
+pub mod Game
+pub mod Lift
+pub mod Settle
+pub mod Play
+pub mod Measure
