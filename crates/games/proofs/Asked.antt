@@ -59,7 +59,7 @@ highest-in f (v ∷ vs) = go (decLe (highest f vs) (f v)) (highest-in f vs)
 
 lowest-mono : (T : ℕ) (f h : ℕ → ℕ) → ((w : ℕ) → f w ≤ h w) → (ws : List ℕ) → lowest T f ws ≤ lowest T h ws
 unfolding lowest
-lowest-mono T f h le [] = le-refl T
+lowest-mono T f h le [] = le-refl _
 lowest-mono T f h le (v ∷ vs) = omega (arith, le v, lowest-mono T f h le vs)
 
 highest-mono : (f h : ℕ → ℕ) → ((w : ℕ) → f w ≤ h w) → (ws : List ℕ) → highest f ws ≤ highest h ws
@@ -83,7 +83,7 @@ ask-mono high T f h le ws = highest-mono f h le ws
 ask-mono counting T f h le ws = omega (arith, highest-mono f h le ws)
 ask-mono resetting T f h le ws = full-mono T _ _ (highest-mono f h le ws)
 ask-mono idle T f h le ws = le-refl 0
-ask-mono lost T f h le ws = le-refl T
+ask-mono lost T f h le ws = le-refl _
 
 pub asked-mono : (g : Game) (f h : ℕ → ℕ) → ((w : ℕ) → f w ≤ h w) → (v : ℕ) → asked g f v ≤ asked g h v
 asked-mono g f h le v = ask-mono (g .kind v) (g .T) f h le (g .next v)
@@ -92,7 +92,7 @@ asked-mono g f h le v = ask-mono (g .kind v) (g .T) f h le (g .next v)
 
 lowest-cap : (T : ℕ) (f : ℕ → ℕ) (ws : List ℕ) → lowest T f ws ≤ T
 unfolding lowest
-lowest-cap T f [] = le-refl T
+lowest-cap T f [] = omega arith
 lowest-cap T f (v ∷ vs) = omega (arith, lowest-cap T f vs)
 
 highest-cap : (T : ℕ) (f : ℕ → ℕ) → ((w : ℕ) → f w ≤ T) → (ws : List ℕ) → highest f ws ≤ T
@@ -114,7 +114,7 @@ ask-cap high T f c ws = highest-cap T f c ws
 ask-cap counting T f c ws = omega arith
 ask-cap resetting T f c ws = full-cap T _
 ask-cap idle T f c ws = omega arith
-ask-cap lost T f c ws = le-refl T
+ask-cap lost T f c ws = omega arith
 
 pub asked-cap : (g : Game) (f : ℕ → ℕ) → ((w : ℕ) → f w ≤ g .T) → (v : ℕ) → asked g f v ≤ g .T
 asked-cap g f c v = ask-cap (g .kind v) (g .T) f c (g .next v)

@@ -3,13 +3,13 @@ use mathlib.Core.Path.{_≡_, refl, ap}
 use mathlib.Core.Logic.{_≢_, _⊎_, inl, inr}
 use mathlib.Core.List.{List, [], _∷_, List·Memᴰ}
 use Prim.Native.Nat.{ℕ, zero, suc, _+_, _≤_, _<_}
-use native.Mathlib.Nat.{le-refl}
 use native.Mathlib.Omega.{arith}
 use native.Mathlib.Decide.{ℕ-discrete}
 use Rattle.games.specs.Game.{Kind, low, high, counting, resetting, idle, lost, Game, Inward, ask, at, lowest, highest, full}
 use Rattle.games.specs.Lift.{cleared, lifts}
-use Rattle.games.specs.Play.{isCounting, isResetting, Step, Walk, stop, more, counts, resets, Choice, Wins, Won, count, countingIn}
+use Rattle.games.specs.Play.{isCounting, isResetting, Live, Step, Walk, stop, more, counts, resets, Choice, Wins, Won, count, countingIn}
 use Rattle.games.proofs.Asked.{Full, full-cases, High, highest-in, lowest-le}
+use Rattle.games.proofs.Count.{count-mono}
 use Rattle.games.proofs.Lift.{Closed, from-cleared}
 
 -- ---- p with v struck out
@@ -32,10 +32,6 @@ strike-cases p v u = go (ℕ-discrete u v)
     go (yes e) = inl (e, refl)
     go (no e) = inr (e, refl)
 
-count-le : (p q : ℕ → ℕ) → ((u : ℕ) → p u ≤ q u) → (n : ℕ) → count p n ≤ count q n
-count-le p q h zero = le-refl 0
-count-le p q h (suc n) = omega (arith, h n, count-le p q h n)
-
 strike-le : (p : ℕ → ℕ) (v u : ℕ) → strike p v u ≤ p u
 strike-le p v u = go (strike-cases p v u)
   where
@@ -48,7 +44,7 @@ count-strike p v zero h = omega arith
 count-strike p v (suc n) h = go (strike-cases p v n) (λ i. count-strike p v n i)
   where
     go : Struck p v n (strike p v n) → (v < n → count (strike p v) n + p v ≤ count p n) → strike p v n + count (strike p v) n + p v ≤ p n + count p n
-    go (inl e) rec = omega (arith, e .1, ap p (e .0), count-le (strike p v) p (strike-le p v) n)
+    go (inl e) rec = omega (arith, e .1, ap p (e .0), count-mono (strike p v) p n (λ u l. strike-le p v u))
     go (inr e) rec = omega (arith, e .1, rec (omega arith))
 
 -- ---- what stands behind an entry n at v against the choice σ: a play that shows n counting positions before a reset, or a loss
@@ -73,7 +69,7 @@ run-past s r h = past s r h
 false : {A : Type 0} → _≡_ {A = ℕ} 0 1 → A
 false e = absurd (omega arith)
 
-step-to : {g : Game} {σ : ℕ → ℕ} {v w : ℕ} → g .kind v ≢ low → g .kind v ≢ idle → List·Memᴰ w (g .next v) → Step g σ v w
+step-to : {g : Game} {σ : ℕ → ℕ} {v w : ℕ} → g .kind v ≢ low → Live g v → List·Memᴰ w (g .next v) → Step g σ v w
 step-to a b m = record { edge = m; chosen = λ q. absurd (a q); live = b }
 
 -- whatever a position asks has such a play behind it, if the entries one step on have
@@ -84,12 +80,12 @@ module _ (g : Game) (σ : ℕ → ℕ) (ch : Choice g σ) (f : ℕ → ℕ) (h :
       let m : List·Memᴰ (σ v) (g .next v) = ch v inside e (λ q. false (cc)) in
       run-over (ap isResetting e) (record { edge = m; chosen = λ q. refl; live = λ q. false (cc) }) (h (σ v)) (omega (arith, lowest-le (g .T) f (rw p at m)))
 
-  run-high : (n : ℕ) → g .kind v ≢ low → g .kind v ≢ idle → isResetting (g .kind v) ≡ 0 → n ≤ isCounting (g .kind v) + highest f (g .next v)
+  run-high : (n : ℕ) → g .kind v ≢ low → Live g v → isResetting (g .kind v) ≡ 0 → n ≤ isCounting (g .kind v) + highest f (g .next v)
       → High f (g .next v) (highest f (g .next v)) → Run g σ v n
   run-high n a b c d (inl z) = run-here (omega arith)
   run-high n a b c d (inr (w, m, q)) = run-over c (step-to a b m) (h w) (omega arith)
 
-  run-full : (n : ℕ) → g .kind v ≢ low → g .kind v ≢ idle → Full (g .T) (highest f (g .next v)) n → High f (g .next v) (highest f (g .next v)) → Run g σ v n
+  run-full : (n : ℕ) → g .kind v ≢ low → Live g v → Full (g .T) (highest f (g .next v)) n → High f (g .next v) (highest f (g .next v)) → Run g σ v n
   run-full n a b (inr c) d = run-here (omega arith)
   run-full n a b (inl c) (inl z) = run-here (omega arith)
   run-full n a b (inl c) (inr (w, m, q)) = run-past (step-to a b m) (h w) (omega arith)

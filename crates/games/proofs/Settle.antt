@@ -9,7 +9,7 @@ use lib.ListN.{length}
 use lib.Seq.{ext-getD}
 use Rattle.games.specs.Game.{Game, at}
 use Rattle.games.specs.Lift.{cleared, lifts, raises, bound, AtRest, Least}
-use Rattle.games.specs.Settle.{ascending, sweep, Outcome, after, sweeps, settle}
+use Rattle.games.specs.Settle.{ascending, sweep, Outcome, after, sweeps, enough, settle}
 use Rattle.games.proofs.Lift.{lifts-entries, lifts-append, lifts-capped, cleared-entries, cleared-capped, never-past}
 use Rattle.games.proofs.Raises.{Covers, unraised-rest, raises-append, raises-most, total, total-lifts, total-most}
 
@@ -73,7 +73,7 @@ sweeps-end g (suc c) t l cap m = go (raises g t (sweep g)) refl (λ x y z. sweep
         }
 
 settle-ends : (g : Game) → Ends g (cleared g) (settle g)
-settle-ends g = sweeps-end g (bound g) (cleared g) (cleared-entries g) (cleared-capped g) (omega arith)
+settle-ends g = sweeps-end g (enough g) (cleared g) (cleared-entries g) (cleared-capped g) (omega arith)
 
 -- the settled table is one that lifts of the cleared table make
 pub settle-by : (g : Game) → (vs : List ℕ) × (lifts g (cleared g) vs ≡ settle g .table)

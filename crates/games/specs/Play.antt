@@ -25,11 +25,15 @@ isResetting resetting = 1
 isResetting idle = 0
 isResetting lost = 0
 
--- A step that keeps to the choice σ. Play ends at an idle position.
+-- Play goes on at every position but an idle one.
+abbrev pub Live : Game → ℕ → Type 0
+Live g v = g .kind v ≢ idle
+
+-- a step that keeps to the choice σ
 pub record Step (g : Game) (σ : ℕ → ℕ) (v w : ℕ) : Type 0 where
   pub edge : List·Memᴰ w (g .next v)
   pub chosen : g .kind v ≡ low → w ≡ σ v
-  pub live : g .kind v ≢ idle
+  pub live : Live g v
 
 -- the finite walks from v that keep to σ
 pub data Walk (g : Game) (σ : ℕ → ℕ) (v : ℕ) : ℕ → Type 0 where

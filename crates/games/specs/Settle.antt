@@ -28,6 +28,9 @@ abbrev pub sweeps : Game → (c : ℕ) → (table : List ℕ) → Outcome
 sweeps g zero t = record { table = t; raised = 0 }
 sweeps g (suc c) t = after (raises g t (sweep g)) t (λ _. sweeps g c (lifts g t (sweep g)))
 
--- No more than P times T sweeps can raise something, so that many are enough.
+-- No more than P times T sweeps can raise something.
+abbrev pub enough : Game → ℕ
+enough g = bound g
+
 abbrev pub settle : Game → Outcome
-settle g = sweeps g (bound g) (cleared g)
+settle g = sweeps g (enough g) (cleared g)

@@ -1,0 +1,66 @@
+-- The laws of `first`: one step on, where it lies, and what is false before it and true at it.
+use mathlib.Core.Path.{_≡_, refl, sym, ap, _∙_}
+use mathlib.Core.Logic.{_↔_}
+use mathlib.Core.Bool.{Bool, true, false, cond, true≢false}
+use Prim.Native.Nat.{ℕ, zero, suc, _+_, _-_, _≤_, _<_}
+use native.Mathlib.Decide.{ℕ-discrete}
+use native.Mathlib.Numerals.{add-one}
+use native.Mathlib.Omega.{arith}
+use Rattle.automaton.specs.First.{first}
+
+-- w is the first of the c numbers from v on that has p, and v + c if none has
+pub record Lowest (p : ℕ → Bool) (v c w : ℕ) : Type 0 where
+  pub least : v ≤ w
+  pub most : w ≤ v + c
+  pub before : (u : ℕ) → v ≤ u → u < w → p u ≡ false
+  pub here : w < v + c → p w ≡ true
+
+module _ (p : ℕ → Bool) where
+  pub first-here : (v c : ℕ) → p v ≡ true → first p v c ≡ v
+  unfolding first
+  first-here v zero e = refl
+  first-here v (suc c) e = simp e
+
+  pub first-next : (v c : ℕ) → p v ≡ false → first p v (suc c) ≡ first p (suc v) c
+  unfolding first
+  first-next v c e = simp e
+
+  -- a loop from v up to e: one turn, and its end
+  pub first-passed : (v e : ℕ) → v < e → p v ≡ false → first p (v + 1) (e - (v + 1)) ≡ first p v (e - v)
+  first-passed v e h f =
+      let l : e - v ≡ suc (e - (v + 1)) = omega arith in
+      simp (l, add-one, first-next v (e - suc v) f)
+
+  pub first-end : (v e : ℕ) → e ≤ v → first p v (e - v) ≡ v
+  unfolding first
+  first-end v e h = let l : e - v ≡ 0 = omega arith in simp l
+
+  pub first-lowest : (v c : ℕ) → Lowest p v c (first p v c)
+  unfolding first
+  first-lowest v zero = record { least = omega arith; most = omega arith; before = λ u l k. absurd (omega arith); here = λ l. absurd (omega arith) }
+  first-lowest v (suc c) = go (p v) refl (first-lowest (suc v) c)
+    where
+      go : (s : Bool) → p v ≡ s → Lowest p (suc v) c (first p (suc v) c) → Lowest p v (suc c) (cond s v (first p (suc v) c))
+      go true e r = record { least = omega arith; most = omega arith; before = λ u l k. absurd (omega arith); here = λ l. e }
+      go false e r = record {
+        least = omega (arith, r .least);
+        most = omega (arith, r .most);
+        before = λ u l k. earlier u l k (ℕ-discrete u v);
+        here = λ l. r .here (omega arith);
+      }
+        where
+          earlier : (u : ℕ) → v ≤ u → u < first p (suc v) c → Dec (u ≡ v) → p u ≡ false
+          earlier u l k (yes d) = ap p d ∙ e
+          earlier u l k (no d) = r .before u (omega arith) k
+
+  pub first-none : (v c : ℕ) → (first p v c ≡ v + c) ↔ ((u : ℕ) → v ≤ u → u < v + c → p u ≡ false)
+  first-none v c = (λ e u l k. r .before u l (omega arith), λ n. go n (ℕ-discrete (first p v c) (v + c)))
+    where
+      r : Lowest p v c (first p v c)
+      r = first-lowest v c
+
+      go : ((u : ℕ) → v ≤ u → u < v + c → p u ≡ false) → Dec (first p v c ≡ v + c) → first p v c ≡ v + c
+      go n (yes e) = e
+      go n (no d) =
+          let b : first p v c < v + c = omega (arith, r .most) in
+          absurd (true≢false (sym (r .here b) ∙ n (first p v c) (r .least) b))

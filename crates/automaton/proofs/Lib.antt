@@ -1,0 +1,4 @@
+pub mod First
+pub mod Fault
+pub mod Sound
+pub mod One

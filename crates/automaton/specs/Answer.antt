@@ -1,0 +1,65 @@
+-- What a call answers, in numbers: those of document 01, "Calls" and "Numbers of refusal".
+use mathlib.Core.Bool.{Bool, true, false}
+use mathlib.Core.List.{List, [], _∷_}
+use Prim.Native.Nat.{ℕ}
+use lib.Dec.{ltb}
+use Rattle.automaton.specs.First.{first}
+use Rattle.automaton.specs.declared.Refusal.{Refusal}
+use Rattle.automaton.specs.declared.Refusal.the-variants.{States, Letters, Marks, Start, Bytes, Outside, Unsorted}
+
+-- A number, a place and three values; a call that names fewer values has 0 for the others.
+pub record Answer : Type 0 where
+  pub number : ℕ
+  pub place : ℕ
+  pub values : List ℕ
+
+-- "An accepted call returns number 0; place and value are 0 unless named below"
+abbrev pub accepted : Answer
+accepted = record { number = 0; place = 0; values = 0 ∷ 0 ∷ 0 ∷ [] }
+
+-- "Every refused call returns its number, a place and values 0"
+abbrev pub refused : (number place : ℕ) → Answer
+refused n p = record { number = n; place = p; values = 0 ∷ 0 ∷ 0 ∷ [] }
+
+-- "Numbers of refusal": the number and the place of each
+abbrev pub numberOf : Refusal → ℕ
+numberOf States = 1
+numberOf Letters = 2
+numberOf (Marks i) = 3
+numberOf Start = 4
+numberOf Bytes = 5
+numberOf (Outside i) = 6
+numberOf (Unsorted i) = 7
+
+abbrev pub placeOf : Refusal → ℕ
+placeOf States = 0
+placeOf Letters = 0
+placeOf (Marks i) = i
+placeOf Start = 0
+placeOf Bytes = 0
+placeOf (Outside i) = i
+placeOf (Unsorted i) = i
+
+-- One line of the table of refusals, applied: nothing is at fault, or this number at this place.
+pub data Fault : Type 0 where
+  none : Fault
+  fault : (number place : ℕ) → Fault
+
+abbrev pub fails : Bool → (number place : ℕ) → Fault
+fails true n p = fault n p
+fails false n p = none
+
+-- "places .. name the first one at fault": the first of c things that p finds at fault
+abbrev pub failsAt : (number : ℕ) → (ℕ → Bool) → (c : ℕ) → Fault
+failsAt n p c = fails (ltb (first p 0 c) c) n (first p 0 c)
+
+-- "The lowest number that applies is given": the lines stand in the order in which they decide.
+abbrev pub firstFault : List Fault → Fault
+firstFault [] = none
+firstFault (none ∷ fs) = firstFault fs
+firstFault (fault n p ∷ fs) = fault n p
+
+-- the answer of a call that does its work unless something is at fault
+abbrev pub unless : Fault → Answer → Answer
+unless none a = a
+unless (fault n p) a = refused n p

@@ -1,0 +1,5 @@
+pub mod Limits
+pub mod Answer
+pub mod First
+pub mod Board
+pub mod Check

@@ -1,0 +1,13 @@
+pub mod Worked
+pub mod Moves
+pub mod Ascending
+pub mod Position
+pub mod Inward
+pub mod Counting
+pub mod Limits
+pub mod Turns
+pub mod Walks
+pub mod Same
+pub mod Relation
+pub mod Reply
+pub mod Meaning

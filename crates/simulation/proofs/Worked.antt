@@ -1,0 +1,14 @@
+-- The worked cases hold of the definitions, by computing them.
+use mathlib.Core.Path.{refl}
+use Rattle.games.specs.Game.{ask, lowest, highest, full}
+use Rattle.games.specs.Lift.{lift}
+use Rattle.games.specs.Play.{firstLeast}
+use Rattle.simulation.specs.Cases.{AllHold, cases, slips}
+
+pub worked : AllHold cases
+unfolding lift ask lowest highest full firstLeast
+worked = (refl, (refl, (refl, (refl, (refl, (refl, (refl, (refl, (refl, (refl, (refl, (refl, (refl, (refl, (refl, (refl, tt))))))))))))))))
+
+pub unslipped : AllHold slips
+unfolding lift ask lowest highest full firstLeast
+unslipped = (refl, (refl, (refl, (refl, (refl, (refl, tt))))))

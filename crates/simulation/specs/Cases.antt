@@ -1,0 +1,99 @@
+-- "Small automata worked out": the cases marked p that speak of settled tables, relations and replies, as one list.
+use mathlib.Core.Path.{_≡_}
+use mathlib.Core.List.{List, [], _∷_}
+use Prim.Native.Nat.{ℕ}
+use lib.ListN.{take}
+use Rattle.games.specs.Game.{at}
+use Rattle.games.specs.Lift.{cleared, lifts}
+use Rattle.automaton.specs.declared.Mode.{Mode}
+use Rattle.automaton.specs.declared.Mode.the-variants.{Ordinary, Direct, Delayed, Fair}
+use Rattle.automaton.specs.Board.{Board}
+use Rattle.simulation.specs.Position.{pairs}
+use Rattle.simulation.specs.Rules.{ceiling, game}
+use Rattle.simulation.specs.Answers.{settled, relation, Reply, blue, no, replyAt}
+
+-- "One letter each. A: 0 to 1, 1 to 0, accept 1."
+abbrev pub boardA : Board
+boardA = record { n = 2; k = 1; marks = 0 ∷ 1 ∷ []; moves = 0 ∷ 0 ∷ 1 ∷ 1 ∷ 0 ∷ 0 ∷ [] }
+
+-- "B: loops on 0 and 1, accept 0."
+abbrev pub boardB : Board
+boardB = record { n = 2; k = 1; marks = 1 ∷ 0 ∷ []; moves = 0 ∷ 0 ∷ 0 ∷ 1 ∷ 0 ∷ 1 ∷ [] }
+
+-- "C: 0 to 1, loop on 1, accept 0."
+abbrev pub boardC : Board
+boardC = record { n = 2; k = 1; marks = 1 ∷ 0 ∷ []; moves = 0 ∷ 0 ∷ 1 ∷ 1 ∷ 0 ∷ 1 ∷ [] }
+
+-- "E: loop on 1 only, accept 0."
+abbrev pub boardE : Board
+boardE = record { n = 2; k = 1; marks = 1 ∷ 0 ∷ []; moves = 1 ∷ 0 ∷ 1 ∷ [] }
+
+-- "one state, no moves", with the mark x
+abbrev pub alone : (x : ℕ) → Board
+alone x = record { n = 1; k = 1; marks = x ∷ []; moves = [] }
+
+abbrev pub tableOf : Board → Mode → List ℕ
+tableOf B m = settled B m .table
+
+abbrev pub relationOf : Board → Mode → List ℕ
+relationOf B m = relation B m (tableOf B m)
+
+-- what the definitions give, and what the document states
+pub data Case : Type 0 where
+  numbers : (given stated : List ℕ) → Case
+  number : (given stated : ℕ) → Case
+  reply : (given stated : Reply) → Case
+
+abbrev pub AllHold : List Case → Type 0
+AllHold [] = Unit {0}
+AllHold (numbers x y ∷ cs) = (x ≡ y) × AllHold cs
+AllHold (number x y ∷ cs) = (x ≡ y) × AllHold cs
+AllHold (reply x y ∷ cs) = (x ≡ y) × AllHold cs
+
+abbrev pub cases : List Case
+cases =
+    -- "p: A, mode 2, settled: 0 0 0 0 1 0 1 0, 0 0 0 0 0 1 0 1."
+    numbers (tableOf boardA Delayed) (0 ∷ 0 ∷ 0 ∷ 0 ∷ 1 ∷ 0 ∷ 1 ∷ 0 ∷ 0 ∷ 0 ∷ 0 ∷ 0 ∷ 0 ∷ 1 ∷ 0 ∷ 1 ∷ [])
+    -- "p: B, mode 2, settled, T = 3: 0 3 0 0 0 3 0 3, twice."
+    ∷ number (ceiling boardB Delayed) 3
+    ∷ numbers (tableOf boardB Delayed) (0 ∷ 3 ∷ 0 ∷ 0 ∷ 0 ∷ 3 ∷ 0 ∷ 3 ∷ 0 ∷ 3 ∷ 0 ∷ 0 ∷ 0 ∷ 3 ∷ 0 ∷ 3 ∷ [])
+    -- "p: C, mode 2: relation 1 0 1 1. p: C, mode 3: 1 1 1 1, Spoiler's entries 0 1 0 0."
+    ∷ numbers (relationOf boardC Delayed) (1 ∷ 0 ∷ 1 ∷ 1 ∷ [])
+    ∷ numbers (relationOf boardC Fair) (1 ∷ 1 ∷ 1 ∷ 1 ∷ [])
+    ∷ numbers (take (pairs boardC Fair) (tableOf boardC Fair)) (0 ∷ 1 ∷ 0 ∷ 0 ∷ [])
+    -- "p: B, mode 3: 1 0 1 1. p: A, mode 1: 1 0 0 1."
+    ∷ numbers (relationOf boardB Fair) (1 ∷ 0 ∷ 1 ∷ 1 ∷ [])
+    ∷ numbers (relationOf boardA Direct) (1 ∷ 0 ∷ 0 ∷ 1 ∷ [])
+    -- "p: E, mode 2: 1 1 0 1. p: E, mode 1: 1 0 0 1."
+    ∷ numbers (relationOf boardE Delayed) (1 ∷ 1 ∷ 0 ∷ 1 ∷ [])
+    ∷ numbers (relationOf boardE Direct) (1 ∷ 0 ∷ 0 ∷ 1 ∷ [])
+    -- "p: one state, no moves, mode 2: not accepting 0 1 2 2; accepting 0 0 1 1."
+    ∷ numbers (tableOf (alone 0) Delayed) (0 ∷ 1 ∷ 2 ∷ 2 ∷ [])
+    ∷ numbers (tableOf (alone 1) Delayed) (0 ∷ 0 ∷ 1 ∷ 1 ∷ [])
+    -- "p: A, mode 2, settled: reply at 15 is 0, at 8 is 1; at 7, refusal 13."
+    ∷ reply (replyAt boardA Delayed (tableOf boardA Delayed) 15) (blue 0)
+    ∷ reply (replyAt boardA Delayed (tableOf boardA Delayed) 8) (blue 1)
+    ∷ reply (replyAt boardA Delayed (tableOf boardA Delayed) 7) (no 13)
+    -- the program's example on A: "raised 4"
+    ∷ number (settled boardA Delayed .raised) 4
+    ∷ []
+
+-- "Slips seen in such tools": cases that come out differently with the slip.
+-- 0 to 2, 1 to 0, accept 1 and 2: Red accepts and Blue answers in the same round, or a round late.
+abbrev pub boardS : Board
+boardS = record { n = 3; k = 1; marks = 0 ∷ 1 ∷ 1 ∷ []; moves = 0 ∷ 0 ∷ 2 ∷ 1 ∷ 0 ∷ 0 ∷ [] }
+
+abbrev pub slips : List Case
+slips =
+    -- "Clearing b before Blue moves .. Red accepts and Blue answers in the same round: met."
+    numbers (relationOf boardS Delayed) (1 ∷ 1 ∷ 0 ∷ 0 ∷ 1 ∷ 0 ∷ 1 ∷ 1 ∷ 1 ∷ [])
+    -- "or when Red leaves F"
+    ∷ numbers (relationOf boardC Delayed) (1 ∷ 0 ∷ 1 ∷ 1 ∷ [])
+    -- "Giving a Duplicator without moves the entry 0."
+    ∷ numbers (relationOf boardE Ordinary) (1 ∷ 1 ∷ 0 ∷ 1 ∷ [])
+    -- "Ending after one sweep that raised little."
+    ∷ numbers (relationOf boardB Fair) (1 ∷ 0 ∷ 1 ∷ 1 ∷ [])
+    -- the order of work shows in the table before rest: "lifts 15 then 6 leave entry 15 at 0; 6 then 15 make it 1"
+    ∷ number (at (lifts (game boardA Delayed) (cleared (game boardA Delayed)) (15 ∷ 6 ∷ [])) 15) 0
+    ∷ number (at (lifts (game boardA Delayed) (cleared (game boardA Delayed)) (6 ∷ 15 ∷ [])) 15) 1
+    ∷ []

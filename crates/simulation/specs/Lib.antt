@@ -1,0 +1,7 @@
+pub mod Moves
+pub mod Position
+pub mod Rules
+pub mod Won
+pub mod Answers
+pub mod Meaning
+pub mod Cases

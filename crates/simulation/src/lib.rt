@@ -1,0 +1,1 @@
+// No code: document 01's four simulation games. Definitions in specs/, theorems in proofs/.
