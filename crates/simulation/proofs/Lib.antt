@@ -1,6 +1,6 @@
-pub mod Worked
+pub mod Cases
 pub mod Moves
-pub mod Ascending
+pub mod Rising
 pub mod Position
 pub mod Inward
 pub mod Counting
@@ -11,3 +11,4 @@ pub mod Same
 pub mod Relation
 pub mod Reply
 pub mod Meaning
+pub mod Examples

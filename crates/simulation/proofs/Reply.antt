@@ -20,7 +20,7 @@ use Rattle.simulation.specs.Won.{Chosen, here, WonBy}
 use Rattle.simulation.specs.Answers.{entryAfter, replies, Reply, blue, no, lostOr, someMove, replyOn, replyAt}
 use Rattle.simulation.specs.Meaning.{LowestLeast}
 use Rattle.simulation.proofs.Moves.{targets-moves}
-use Rattle.simulation.proofs.Ascending.{Rising, rising-ge, targets-rising}
+use Rattle.simulation.proofs.Rising.{Rising, rising-ge, targets-rising}
 use Rattle.simulation.proofs.Position.{number-lt, position-number, position-fits}
 use Rattle.simulation.proofs.Inward.{inward}
 use Rattle.simulation.proofs.Turns.{isLow, turn-low}

@@ -78,21 +78,35 @@ cases =
     ∷ number (settled boardA Delayed .raised) 4
     ∷ []
 
--- "Slips seen in such tools": cases that come out differently with the slip.
--- 0 to 2, 1 to 0, accept 1 and 2: Red accepts and Blue answers in the same round, or a round late.
-abbrev pub boardS : Board
-boardS = record { n = 3; k = 1; marks = 0 ∷ 1 ∷ 1 ∷ []; moves = 0 ∷ 0 ∷ 2 ∷ 1 ∷ 0 ∷ 0 ∷ [] }
+-- ---- "Slips seen in such tools": cases that come out differently with the slip
+
+-- 0 loops, 1 to 2, 2 to 0, accept 2. With Red on 1 and Blue on 2 Red comes to accept as Blue, who did before, leaves for good.
+abbrev pub boardEarly : Board
+boardEarly = record { n = 3; k = 1; marks = 0 ∷ 0 ∷ 1 ∷ []; moves = 0 ∷ 0 ∷ 0 ∷ 1 ∷ 0 ∷ 2 ∷ 2 ∷ 0 ∷ 0 ∷ [] }
+
+-- 0 to 2, 1 to 0, accept 1 and 2. With Red on 1 and Blue on 0 Blue answers at once, and is stuck a round later;
+-- were b left at 1, the position in between would pass for idle and the pair for won.
+abbrev pub boardMet : Board
+boardMet = record { n = 3; k = 1; marks = 0 ∷ 1 ∷ 1 ∷ []; moves = 0 ∷ 0 ∷ 2 ∷ 1 ∷ 0 ∷ 0 ∷ [] }
+
+-- two letters: 0 loops by the one, 1 by the other
+abbrev pub boardTwo : Board
+boardTwo = record { n = 2; k = 2; marks = 0 ∷ 0 ∷ []; moves = 0 ∷ 0 ∷ 0 ∷ 1 ∷ 1 ∷ 1 ∷ [] }
 
 abbrev pub slips : List Case
 slips =
-    -- "Clearing b before Blue moves .. Red accepts and Blue answers in the same round: met."
-    numbers (relationOf boardS Delayed) (1 ∷ 1 ∷ 0 ∷ 0 ∷ 1 ∷ 0 ∷ 1 ∷ 1 ∷ 1 ∷ [])
+    -- "Clearing b before Blue moves"
+    numbers (relationOf boardEarly Delayed) (1 ∷ 1 ∷ 1 ∷ 0 ∷ 1 ∷ 0 ∷ 0 ∷ 1 ∷ 1 ∷ [])
+    -- "Red accepts and Blue answers in the same round: met."
+    ∷ numbers (relationOf boardMet Delayed) (1 ∷ 1 ∷ 0 ∷ 0 ∷ 1 ∷ 0 ∷ 1 ∷ 1 ∷ 1 ∷ [])
     -- "or when Red leaves F"
     ∷ numbers (relationOf boardC Delayed) (1 ∷ 0 ∷ 1 ∷ 1 ∷ [])
     -- "Giving a Duplicator without moves the entry 0."
     ∷ numbers (relationOf boardE Ordinary) (1 ∷ 1 ∷ 0 ∷ 1 ∷ [])
     -- "Ending after one sweep that raised little."
     ∷ numbers (relationOf boardB Fair) (1 ∷ 0 ∷ 1 ∷ 1 ∷ [])
+    -- a reply by another letter
+    ∷ numbers (relationOf boardTwo Ordinary) (1 ∷ 0 ∷ 0 ∷ 1 ∷ [])
     -- the order of work shows in the table before rest: "lifts 15 then 6 leave entry 15 at 0; 6 then 15 make it 1"
     ∷ number (at (lifts (game boardA Delayed) (cleared (game boardA Delayed)) (15 ∷ 6 ∷ [])) 15) 0
     ∷ number (at (lifts (game boardA Delayed) (cleared (game boardA Delayed)) (6 ∷ 15 ∷ [])) 15) 1

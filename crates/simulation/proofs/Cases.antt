@@ -11,4 +11,4 @@ worked = (refl, (refl, (refl, (refl, (refl, (refl, (refl, (refl, (refl, (refl, (
 
 pub unslipped : AllHold slips
 unfolding lift ask lowest highest full firstLeast
-unslipped = (refl, (refl, (refl, (refl, (refl, (refl, tt))))))
+unslipped = (refl, (refl, (refl, (refl, (refl, (refl, (refl, (refl, tt))))))))
