@@ -9,7 +9,8 @@ use lib.ListN.{length, getD}
 use Rattle.automaton.specs.Limits.{mostStates, mostLetters}
 use Rattle.automaton.specs.declared.Automaton.{Automaton}
 
--- "States 0 to n-1 .. Letters 0 to k-1 .. One accept mark per state, 0 or 1"; "Moves: bytes, three a move (from, letter, to)"
+-- "States 0 to n-1 .. Letters 0 to k-1 .. One accept mark per state, 0 or 1";
+-- "Moves: bytes, three a move (from, letter, to) .. No moves at all is allowed."
 pub record Board : Type 0 where
   pub n : ℕ
   pub k : ℕ
@@ -50,7 +51,7 @@ abbrev pub unsorted : (moves : List ℕ) → ℕ → Bool
 unsorted ms zero = false
 unsorted ms (suc i) = not (above (from ms i) (letter ms i) (to ms i) (from ms (suc i)) (letter ms (suc i)) (to ms (suc i)))
 
--- What a checked automaton gives its callers.
+-- What a checked automaton gives its callers: limits, lengths, and moves inside the board, each above the one before.
 pub record Formed (B : Board) : Type 0 where
   pub states : 0 < B .n
   pub few : B .n ≤ mostStates

@@ -92,9 +92,6 @@ asks-count resetting T f ws h = omega arith
 asks-count idle T f ws h = omega arith
 asks-count lost T f ws h = omega arith
 
-nonempty : {w : ℕ} {ws : List ℕ} → List·Memᴰ w ws → ws ≢ []
-nonempty m e = List·Memᴰ·not-nil (rw e at m)
-
 -- ---- walks that follow least replies
 
 module _ (g : Game) (ins : Inward g) (t : List ℕ) (r : AtRest g t) (σ : ℕ → ℕ) (best : LeastReplies g t σ) where

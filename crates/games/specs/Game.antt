@@ -20,6 +20,7 @@ pub record Game : Type 0 where
 abbrev pub Inward : Game → Type 0
 Inward g = (v : ℕ) → v < g .P → (w : ℕ) → List·Memᴰ w (g .next v) → w < g .P
 
+-- "Dead ends are allowed. A player who cannot move loses": with no step on, Spoiler's High is 0 and Duplicator's Low is T.
 -- "High is the greatest entry one step on, 0 if there is none."
 unfoldable pub highest : (entry : ℕ → ℕ) → List ℕ → ℕ
 highest f [] = 0

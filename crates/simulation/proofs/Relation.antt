@@ -8,7 +8,7 @@ use native.Mathlib.Nat.{add-zero, zero-add}
 use native.Mathlib.Omega.{arith}
 use lib.Arith.{digits-lt, digits-div, digits-mod}
 use lib.Dec.{ltb}
-use lib.ListN.{length, getD}
+use lib.ListN.{length, getD, length-map}
 use borrow.Author.Tests.{lt-ltb, ltb-true}
 use Rattle.games.specs.Game.{at}
 use Rattle.games.specs.Lift.{bound, AtRest, Least}
@@ -47,9 +47,9 @@ map-at f v zero i l = absurd (omega arith)
 map-at f v (suc c) zero l = sym (ap f (add-zero v))
 map-at f v (suc c) (suc i) l = let e : suc v + i ≡ v + suc i = omega arith in map-at f (suc v) c i (omega arith) ∙ ap f e
 
-map-length : (f : ℕ → ℕ) (v c : ℕ) → length (map f (ascending v c)) ≡ c
-map-length f v zero = refl
-map-length f v (suc c) = ap suc (map-length f (suc v) c)
+length-ascending : (v c : ℕ) → length (ascending v c) ≡ c
+length-ascending v zero = refl
+length-ascending v (suc c) = ap suc (length-ascending (suc v) c)
 
 bit-one : (a b : ℕ) → bit (ltb a b) ≡ 1 ↔ a < b
 bit-one a b = (λ e. go (ltb a b) refl e, λ h. ap bit (lt-ltb a b h))
@@ -59,7 +59,7 @@ bit-one a b = (λ e. go (ltb a b) refl e, λ h. ap bit (lt-ltb a b h))
     go false d e = absurd (omega arith)
 
 pub relation-length : (B : Board) (m : Mode) (t : List ℕ) → length (relation B m t) ≡ B .n * B .n
-relation-length B m t = map-length (byteAt B m t) 0 (B .n * B .n)
+relation-length B m t = length-map (ascending 0 (B .n * B .n)) (byteAt B m t) ∙ length-ascending 0 (B .n * B .n)
 
 -- ---- pairs
 

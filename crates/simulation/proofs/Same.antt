@@ -1,7 +1,7 @@
 -- A pair is won, as document 01 words it, exactly if its beginning is won in the game that lifting decides.
 use mathlib.Core.Path.{_≡_, refl, sym, ap, _∙_, subst}
 use mathlib.Core.Logic.{_≢_, _↔_}
-use mathlib.Core.List.{List, [], _∷_, map, List·Memᴰ, List·Memᴰ·head, List·Memᴰ·not-nil, Memᴰ·map, Memᴰ·of-map, Memᴰ·cast}
+use mathlib.Core.List.{List, [], map, map-eq-nil-iff, List·Memᴰ, List·Memᴰ·not-nil, Memᴰ·map, Memᴰ·of-map, Memᴰ·cast}
 use Prim.Native.Nat.{ℕ, _+_, _<_}
 use native.Mathlib.Omega.{arith}
 use Rattle.games.specs.Game.{low}
@@ -23,10 +23,6 @@ use Rattle.simulation.proofs.Walks.{Good, beginning-good, walk-good, ta
 pub nonempty : {X : Type 0} {w : X} {l : List X} → List·Memᴰ w l → l ≢ []
 nonempty m e = List·Memᴰ·not-nil (rw e at m)
 
-map-nil : {X Y : Type 0} (f : X → Y) (l : List X) → map f l ≡ [] → l ≡ []
-map-nil f [] e = refl
-map-nil f (x ∷ xs) e = absurd (nonempty (List·Memᴰ·head {x = f x} {xs = map f xs} refl) e)
-
 module _ (B : Board) (m : Mode) where
   pub next-is : (p : Position) → Fits B m p → game B m .next (number B m p) ≡ map (number B m) (steps B m p)
   next-is p h = ap (λ (z : Position). map (number B m) (steps B m z)) (position-number B m p h)
@@ -40,7 +36,7 @@ module _ (B : Board) (m : Mode) where
 
   next-stuck : (p : Position) → kindOf B m p ≡ low → map (number B m) (steps B m p) ≡ [] → Stuck B p
   next-stuck (spoiler b q r) e n = absurd (omega (arith, turn-low m b (accepts B q) (accepts B r), ap isLow e))
-  next-stuck (duplicator b q r a) e n = map-nil (reply B m b q) (targets B r a) (map-nil (number B m) (steps B m (duplicator b q r a)) n)
+  next-stuck (duplicator b q r a) e n = map-eq-nil-iff (reply B m b q) .0 (map-eq-nil-iff (number B m) .0 n)
 
 -- ---- walks by numbers, for two choices that agree
 
