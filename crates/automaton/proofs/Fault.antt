@@ -7,39 +7,41 @@ use Prim.Native.Nat.{ℕ, _<_}
 use native.Mathlib.Omega.{arith}
 use lib.Dec.{ltb}
 use borrow.Author.Tests.{ltb-false, le-ltb}
-use Rattle.automaton.specs.Answer.{Answer, Fault, none, fault, fails, failsAt, firstFault, unless}
+use Rattle.automaton.specs.Answer.{Answer, numberOf, Fault, none, fault, fails, failsAt, firstFault, unless}
 use Rattle.automaton.specs.First.{first}
+use Rattle.automaton.specs.declared.Refusal.{Refusal}
+use Rattle.automaton.specs.declared.Refusal.the-variants.{States, Letters, Marks, Start, Bytes, Outside, Unsorted}
 use Rattle.automaton.proofs.First.{first-lowest, first-none}
 
 -- no refusal has the number 0
-abbrev pub Numbered : Fault → Type 0
-Numbered none = Unit {0}
-Numbered (fault n p) = 0 < n
+refusal-numbered : (r : Refusal) → 0 < numberOf r
+refusal-numbered States = omega arith
+refusal-numbered Letters = omega arith
+refusal-numbered (Marks i) = omega arith
+refusal-numbered Start = omega arith
+refusal-numbered Bytes = omega arith
+refusal-numbered (Outside i) = omega arith
+refusal-numbered (Unsorted i) = omega arith
 
 -- a line of the table that finds no fault exactly if P holds
-pub record Line (f : Fault) (P : Type 0) : Type 0 where
-  pub numbered : Numbered f
-  pub clear : (f ≡ none) ↔ P
+abbrev pub Line : Fault → Type 0 → Type 0
+Line f P = (f ≡ none) ↔ P
 
-found : {n p : ℕ} → fault n p ≡ none → ⊥
+found : {r : Refusal} → fault r ≡ none → ⊥
 found e = let z : _≡_ {A = ℕ} 0 1 = cc in omega arith
 
-pub always-line : (n p : ℕ) → 0 < n → Line (fault n p) ⊥
-always-line n p h = record { numbered = h; clear = (found, λ x. absurd x) }
+pub always-line : (r : Refusal) → Line (fault r) ⊥
+always-line r = (found, λ x. absurd x)
 
-pub fails-line : (b : Bool) (P : Type 0) (n p : ℕ) → 0 < n → (b ≡ false) ↔ P → Line (fails b n p) P
-fails-line b P n p h q = record { numbered = named b; clear = Iff·trans (none-is b) q }
+pub fails-line : (b : Bool) (P : Type 0) (r : Refusal) → (b ≡ false) ↔ P → Line (fails b r) P
+fails-line b P r q = Iff·trans (none-is b) q
   where
-    named : (s : Bool) → Numbered (fails s n p)
-    named true = h
-    named false = tt
-
-    none-is : (s : Bool) → (fails s n p ≡ none) ↔ (s ≡ false)
+    none-is : (s : Bool) → (fails s r ≡ none) ↔ (s ≡ false)
     none-is true = (λ e. absurd (found e), λ e. absurd (true≢false e))
     none-is false = (λ e. refl, λ e. refl)
 
-pub failsAt-line : (p : ℕ → Bool) (P : Type 0) (n c : ℕ) → 0 < n → ((i : ℕ) → i < c → p i ≡ false) ↔ P → Line (failsAt n p c) P
-failsAt-line p P n c h q = fails-line (ltb (first p 0 c) c) P n (first p 0 c) h (Iff·trans none-is q)
+pub failsAt-line : (r : ℕ → Refusal) (p : ℕ → Bool) (P : Type 0) (c : ℕ) → ((i : ℕ) → i < c → p i ≡ false) ↔ P → Line (failsAt r p c) P
+failsAt-line r p P c q = fails-line (ltb (first p 0 c) c) P (r (first p 0 c)) (Iff·trans none-is q)
   where
     none-is : (ltb (first p 0 c) c ≡ false) ↔ ((i : ℕ) → i < c → p i ≡ false)
     none-is = (
@@ -59,5 +61,5 @@ table-zero end a z = (λ e. tt, λ e. z)
 table-zero (_then_ {f} {fs} {P} {Q} l t) a z = go f l (table-zero t a z)
   where
     go : (g : Fault) → Line g P → (unless (firstFault fs) a .number ≡ 0) ↔ Q → (unless (firstFault (g ∷ fs)) a .number ≡ 0) ↔ (P × Q)
-    go none r q = (λ e. (r .clear .0 refl, q .0 e), λ h. q .1 (h .1))
-    go (fault n p) r q = (λ e. absurd (omega (arith, r .numbered)), λ h. absurd (found (r .clear .1 (h .0))))
+    go none r q = (λ e. (r .0 refl, q .0 e), λ h. q .1 (h .1))
+    go (fault x) r q = (λ e. absurd (omega (arith, refusal-numbered x)), λ h. absurd (found (r .1 (h .0))))

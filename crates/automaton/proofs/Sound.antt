@@ -12,7 +12,9 @@ use Rattle.automaton.specs.Answer.{none, fault, fails, failsAt, accepted
 use Rattle.automaton.specs.Board.{Board, Formed, from, letter, to, above, Above, outside, unsorted}
 use Rattle.automaton.specs.Check.{high, checked}
 use Rattle.automaton.specs.Limits.{mostStates, mostLetters}
-use Rattle.automaton.proofs.Fault.{Line, always-line, fails-line, failsAt-line, _then_, end, table-zero, Numbered}
+use Rattle.automaton.specs.declared.Refusal.{Refusal}
+use Rattle.automaton.specs.declared.Refusal.the-variants.{States, Letters, Marks, Start, Bytes, Outside, Unsorted}
+use Rattle.automaton.proofs.Fault.{Line, always-line, fails-line, failsAt-line, _then_, end, table-zero}
 
 -- ---- what each test says
 
@@ -53,55 +55,44 @@ above-is x y z x′ y′ z′ = lexical x x′ _ _ (lexical y y′ _ _ (ltb-true
 
 -- ---- the lines of the table
 
-range-line : (n m number : ℕ) → 0 < number → Line (fails (ltb n 1 || ltb m n) number 0) ((0 < n) × (n ≤ m))
-range-line n m number h = fails-line _ _ number 0 h (range n m)
+range-line : (n m : ℕ) (r : Refusal) → Line (fails (ltb n 1 || ltb m n) r) ((0 < n) × (n ≤ m))
+range-line n m r = fails-line _ _ r (range n m)
 
-start-line : (n start : ℕ) → Line (fails (leb n start) 4 0) (start < n)
-start-line n start = fails-line _ _ 4 0 (omega arith) (leb-false n start, lt-leb n start)
+start-line : (n start : ℕ) → Line (fails (leb n start) Start) (start < n)
+start-line n start = fails-line _ _ Start (leb-false n start, lt-leb n start)
 
-bytes-line : (l : ℕ) → Line (fails (not (eqb (l % 3) 0)) 5 0) (l % 3 ≡ 0)
-bytes-line l = fails-line _ _ 5 0 (omega arith) (not-is (eqb (l % 3) 0) _ (eqb-true (l % 3) 0, eq-eqb (l % 3) 0))
+bytes-line : (l : ℕ) → Line (fails (not (eqb (l % 3) 0)) Bytes) (l % 3 ≡ 0)
+bytes-line l = fails-line _ _ Bytes (not-is (eqb (l % 3) 0) _ (eqb-true (l % 3) 0, eq-eqb (l % 3) 0))
 
 module _ (n : ℕ) (marks : List ℕ) where
   abbrev Binary : Type 0
   Binary = (q : ℕ) → q < n → getD marks q 0 ≤ 1
 
-  binary-line : Line (failsAt 3 (high marks) n) Binary
-  binary-line = failsAt-line (high marks) _ 3 n (omega arith) (λ a q h. ltb-false 1 (getD marks q 0) (a q h), λ a q h. le-ltb 1 (getD marks q 0) (a q h))
+  binary-line : Line (failsAt Marks (high marks) n) Binary
+  binary-line = failsAt-line Marks (high marks) _ n (λ a q h. ltb-false 1 (getD marks q 0) (a q h), λ a q h. le-ltb 1 (getD marks q 0) (a q h))
 
-  marks-line : Line (cond (eqb (length marks) n) (failsAt 3 (high marks) n) (fault 3 n)) ((length marks ≡ n) × Binary)
-  marks-line = record {
-    numbered = named (eqb (length marks) n);
-    clear = (λ e. go (eqb (length marks) n) refl e, λ h. simp (eq-eqb (length marks) n (h .0)) (binary-line .clear .1 (h .1)));
-  }
+  marks-line : Line (cond (eqb (length marks) n) (failsAt Marks (high marks) n) (fault (Marks n))) ((length marks ≡ n) × Binary)
+  marks-line = (λ e. go (eqb (length marks) n) refl e, λ h. simp (eq-eqb (length marks) n (h .0)) (binary-line .1 (h .1)))
     where
-      wrong : Line (fault 3 n) ⊥
-      wrong = always-line 3 n (omega arith)
-
-      named : (s : Bool) → Numbered (cond s (failsAt 3 (high marks) n) (fault 3 n))
-      named true = binary-line .numbered
-      named false = wrong .numbered
-
-      go : (s : Bool) → eqb (length marks) n ≡ s → cond s (failsAt 3 (high marks) n) (fault 3 n) ≡ none → (length marks ≡ n) × Binary
-      go true d e = (eqb-true (length marks) n d, binary-line .clear .0 e)
-      go false d e = absurd (wrong .clear .0 e)
+      go : (s : Bool) → eqb (length marks) n ≡ s → cond s (failsAt Marks (high marks) n) (fault (Marks n)) ≡ none → (length marks ≡ n) × Binary
+      go true d e = (eqb-true (length marks) n d, binary-line .0 e)
+      go false d e = absurd (always-line (Marks n) .0 e)
 
 module _ (ms : List ℕ) where
-  inside-line :
-      (n k : ℕ) →
-      Line (failsAt 6 (outside n k ms) (length ms / 3)) ((i : ℕ) → i * 3 + 2 < length ms → (from ms i < n) × (letter ms i < k) × (to ms i < n))
-  inside-line n k =
-      failsAt-line (outside n k ms) _ 6 (length ms / 3) (omega arith)
-      (λ a i h. one i .0 (a i (omega arith)), λ a i h. one i .1 (a i (omega arith)))
+  abbrev Inside : (n k : ℕ) → ℕ → Type 0
+  Inside n k i = (from ms i < n) × (letter ms i < k) × (to ms i < n)
+
+  inside-line : (n k : ℕ) → Line (failsAt Outside (outside n k ms) (length ms / 3)) ((i : ℕ) → i * 3 + 2 < length ms → Inside n k i)
+  inside-line n k = failsAt-line Outside (outside n k ms) _ (length ms / 3) (λ a i h. one i .0 (a i (omega arith)), λ a i h. one i .1 (a i (omega arith)))
     where
-      one : (i : ℕ) → (outside n k ms i ≡ false) ↔ ((from ms i < n) × (letter ms i < k) × (to ms i < n))
+      one : (i : ℕ) → (outside n k ms i ≡ false) ↔ Inside n k i
       one i = not-is _ _ (inside-is (from ms i) (letter ms i) (to ms i) n k)
 
   abbrev Next : ℕ → Type 0
   Next i = Above (from ms i) (letter ms i) (to ms i) (from ms (suc i)) (letter ms (suc i)) (to ms (suc i))
 
-  order-line : Line (failsAt 7 (unsorted ms) (length ms / 3)) ((i : ℕ) → i * 3 + 5 < length ms → Next i)
-  order-line = failsAt-line (unsorted ms) _ 7 (length ms / 3) (omega arith) (λ a i h. one i .0 (a (suc i) (omega arith)), back)
+  order-line : Line (failsAt Unsorted (unsorted ms) (length ms / 3)) ((i : ℕ) → i * 3 + 5 < length ms → Next i)
+  order-line = failsAt-line Unsorted (unsorted ms) _ (length ms / 3) (λ a i h. one i .0 (a (suc i) (omega arith)), back)
     where
       one : (i : ℕ) → (unsorted ms (suc i) ≡ false) ↔ Next i
       one i = not-is _ _ (above-is (from ms i) (letter ms i) (to ms i) (from ms (suc i)) (letter ms (suc i)) (to ms (suc i)))
@@ -116,8 +107,8 @@ pub sound : (B : Board) (start : ℕ) → (checked B start .number ≡ 0) ↔ (F
 unfolding checked
 sound B start =
     let table =
-    range-line (B .n) mostStates 1 (omega arith) then
-    range-line (B .k) mostLetters 2 (omega arith) then
+    range-line (B .n) mostStates States then
+    range-line (B .k) mostLetters Letters then
     marks-line (B .n) (B .marks) then
     start-line (B .n) start then
     bytes-line (length (B .moves)) then

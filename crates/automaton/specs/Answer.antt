@@ -17,10 +17,6 @@ pub record Answer : Type 0 where
 abbrev pub accepted : Answer
 accepted = record { number = 0; place = 0; values = 0 ∷ 0 ∷ 0 ∷ [] }
 
--- "Every refused call returns its number, a place and values 0"
-abbrev pub refused : (number place : ℕ) → Answer
-refused n p = record { number = n; place = p; values = 0 ∷ 0 ∷ 0 ∷ [] }
-
 -- "Numbers of refusal": the number and the place of each
 abbrev pub numberOf : Refusal → ℕ
 numberOf States = 1
@@ -40,26 +36,32 @@ placeOf Bytes = 0
 placeOf (Outside i) = i
 placeOf (Unsorted i) = i
 
--- One line of the table of refusals, applied: nothing is at fault, or this number at this place.
+-- "Every refused call returns its number, a place and values 0"
+abbrev pub refused : Refusal → Answer
+refused r = record { number = numberOf r; place = placeOf r; values = 0 ∷ 0 ∷ 0 ∷ [] }
+
+-- ---- deciding a refusal
+
+-- what a line of the table of refusals finds
 pub data Fault : Type 0 where
   none : Fault
-  fault : (number place : ℕ) → Fault
+  fault : Refusal → Fault
 
-abbrev pub fails : Bool → (number place : ℕ) → Fault
-fails true n p = fault n p
-fails false n p = none
+abbrev pub fails : Bool → Refusal → Fault
+fails true r = fault r
+fails false r = none
 
--- "places .. name the first one at fault": the first of c things that p finds at fault
-abbrev pub failsAt : (number : ℕ) → (ℕ → Bool) → (c : ℕ) → Fault
-failsAt n p c = fails (ltb (first p 0 c) c) n (first p 0 c)
+-- "places .. name the first one at fault": the first of c things that p finds at fault, as the place of a refusal
+abbrev pub failsAt : (ℕ → Refusal) → (p : ℕ → Bool) → (c : ℕ) → Fault
+failsAt r p c = fails (ltb (first p 0 c) c) (r (first p 0 c))
 
 -- "The lowest number that applies is given": the lines stand in the order in which they decide.
 abbrev pub firstFault : List Fault → Fault
 firstFault [] = none
 firstFault (none ∷ fs) = firstFault fs
-firstFault (fault n p ∷ fs) = fault n p
+firstFault (fault r ∷ fs) = fault r
 
 -- the answer of a call that does its work unless something is at fault
 abbrev pub unless : Fault → Answer → Answer
 unless none a = a
-unless (fault n p) a = refused n p
+unless (fault r) a = refused r

@@ -4,9 +4,10 @@ use mathlib.Core.List.{List, [], _∷_}
 use Prim.Native.Nat.{ℕ, _/_, _%_}
 use lib.Dec.{eqb, ltb, leb}
 use lib.ListN.{length, getD}
-use Rattle.automaton.specs.Answer.{Answer, accepted, refused, numberOf, placeOf, Fault, fault, fails, failsAt, firstFault, unless}
+use Rattle.automaton.specs.Answer.{Answer, accepted, refused, Fault, fault, fails, failsAt, firstFault, unless}
 use Rattle.automaton.specs.Board.{Board, outside, unsorted}
 use Rattle.automaton.specs.Limits.{mostStates, mostLetters}
+use Rattle.automaton.specs.declared.Refusal.the-variants.{States, Letters, Marks, Start, Bytes, Outside, Unsorted}
 use Rattle.automaton.specs.declared.Checked.{Checked}
 use Rattle.automaton.specs.declared.Checked.the-variants.{Sound, Refused}
 
@@ -16,23 +17,24 @@ high marks i = ltb 1 (getD marks i 0)
 
 -- "not n marks; else a mark above 1" at "n; else its index"
 abbrev pub marksFault : Board → Fault
-marksFault B = cond (eqb (length (B .marks)) (B .n)) (failsAt 3 (high (B .marks)) (B .n)) (fault 3 (B .n))
+marksFault B = cond (eqb (length (B .marks)) (B .n)) (failsAt Marks (high (B .marks)) (B .n)) (fault (Marks (B .n)))
 
 abbrev pub faults : Board → (start : ℕ) → List Fault
 faults B start =
-    -- "n not 1..64"
-    fails (ltb (B .n) 1 || ltb mostStates (B .n)) 1 0
-    -- "k not 1..16"
-    ∷ fails (ltb (B .k) 1 || ltb mostLetters (B .k)) 2 0
+    -- 1: "n not 1..64"
+    fails (ltb (B .n) 1 || ltb mostStates (B .n)) States
+    -- 2: "k not 1..16"
+    ∷ fails (ltb (B .k) 1 || ltb mostLetters (B .k)) Letters
+    -- 3
     ∷ marksFault B
-    -- "start not below n"
-    ∷ fails (leb (B .n) start) 4 0
-    -- "move bytes not a multiple of 3"
-    ∷ fails (not (eqb (length (B .moves) % 3) 0)) 5 0
-    -- "a move's state is not below n or its letter not below k" at "first such move"
-    ∷ failsAt 6 (outside (B .n) (B .k) (B .moves)) (length (B .moves) / 3)
-    -- "a move not above the one before" at "first such move"
-    ∷ failsAt 7 (unsorted (B .moves)) (length (B .moves) / 3)
+    -- 4: "start not below n"
+    ∷ fails (leb (B .n) start) Start
+    -- 5: "move bytes not a multiple of 3"
+    ∷ fails (not (eqb (length (B .moves) % 3) 0)) Bytes
+    -- 6: "a move's state is not below n or its letter not below k" at "first such move"
+    ∷ failsAt Outside (outside (B .n) (B .k) (B .moves)) (length (B .moves) / 3)
+    -- 7: "a move not above the one before" at "first such move"
+    ∷ failsAt Unsorted (unsorted (B .moves)) (length (B .moves) / 3)
     ∷ []
 
 -- what is at fault with an automaton, if anything is
@@ -46,4 +48,4 @@ checked B start = unless (automatonFault B start) accepted
 -- the number, place and values of each case of the code's answer
 abbrev pub answerOf : Checked → Answer
 answerOf Sound = accepted
-answerOf (Refused r) = refused (numberOf r) (placeOf r)
+answerOf (Refused r) = refused r

@@ -30,7 +30,7 @@ pub enum Mode {
     Fair,
 }
 
-// The mode of a number, if there is one.
+// The mode of a number, or that there is none.
 pub enum Named {
     Known(Mode),
     Unknown,
@@ -45,6 +45,7 @@ impl Mode {
 
     pub const FAIR: usize = 3;
 
+    // The mode with this number.
     pub fn named(number: usize) -> Named
         ensures { λ r. ⌜ r ≡ nameOf number ⌝ }
     {
@@ -101,6 +102,7 @@ impl Refusal {
     }
 }
 
+// What `check` answers.
 pub enum Checked {
     Sound,
     Refused(Refusal),

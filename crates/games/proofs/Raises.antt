@@ -1,6 +1,6 @@
 -- The lifts that raise an entry: there is one among lifts of all positions unless the table was at rest, and there are at most P times T.
 use mathlib.Core.Path.{_≡_, refl, _∙_}
-use mathlib.Core.Logic.{_⊎_, inl, inr}
+use mathlib.Core.Logic.{_⊎_, inl, inr, _↔_}
 use mathlib.Core.List.{List, [], _∷_, _++_, List·Memᴰ, List·Memᴰ·head, List·Memᴰ·tail}
 use Prim.Native.Nat.{ℕ, zero, suc, _+_, _*_, _≤_, _<_, max}
 use native.Mathlib.Nat.{le-trans, suc-mul}
@@ -22,6 +22,10 @@ rise-still g t v e = go (decLt v (length t))
     go : Dec (v < length t) → lift g t v ≡ t
     go (yes h) = lift-still g t v (rise-rest g t v h e)
     go (no h) = lift-out g t v (omega arith)
+
+-- "A position is at rest when a lift would not raise it"
+pub rest-unraised : (g : Game) (t : List ℕ) (v : ℕ) → v < length t → (rise g t v ≡ 0) ↔ (asked g (at t) v ≤ at t v)
+rest-unraised g t v h = (rise-rest g t v h, λ r. rw (lift-still g t v r) (omega arith))
 
 unraised : (g : Game) (t vs : List ℕ) → raises g t vs ≡ 0 → {v : ℕ} → List·Memᴰ v vs → v < length t → asked g (at t) v ≤ at t v
 unraised g t vs e (List·Memᴰ·head {x = u} {xs = us} p) h = rw p (rise-rest g t u (rw (← p) h) (omega arith))

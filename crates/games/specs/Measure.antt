@@ -17,6 +17,6 @@ pub record Ranked (g : Game) (bound : ℕ) (R : ℕ → ℕ → Type 0) : Type 0
   pub bounded : (v m : ℕ) → R v m → m < bound
   pub upheld : (v m : ℕ) → v < g .P → R v m → Upheld (g .kind v) R (g .next v) m
 
--- the function f at rest, with no ceiling at all, on the positions of S
+-- The function f at rest, with no ceiling at all, on the positions of S: each is upheld with rank f v, every number from f w on being a rank of w.
 abbrev pub RestOn : Game → (S : ℕ → Type 0) → (f : ℕ → ℕ) → Type 0
 RestOn g S f = (v : ℕ) → v < g .P → S v → Upheld (g .kind v) (λ w p. S w × (f w ≤ p)) (g .next v) (f v)
