@@ -91,6 +91,11 @@ module _ (B : Board) (F : Formed B) (m : Mode) (t : List ℕ) (q r : ℕ) (h : q
   pub relation-rest : AtRest (game B m) t → getD (relation B m t) (q * B .n + r) 0 ≡ 1 → WonPair B m q r
   relation-rest s e = rest-won s (one-below .0 e)
 
-  -- "from a settled one, every won pair is a 1"
+  -- and from the least one, which is the settled one, every won pair is a 1
   pub relation-least : Least (game B m) t → getD (relation B m t) (q * B .n + r) 0 ≡ 1 ↔ WonPair B m q r
   relation-least s = (λ e. least-won s .0 (one-below .0 e), λ w. one-below .1 (least-won s .1 w))
+
+-- "from a settled one, every won pair is a 1"
+pub relation-settled : (B : Board) → Formed B → (m : Mode) (q r : ℕ) → q < B .n → r < B .n
+    → getD (relation B m (settled B m .table)) (q * B .n + r) 0 ≡ 1 ↔ WonPair B m q r
+relation-settled B F m q r h l = relation-least B F m (settled B m .table) q r h l (settled-least B m)
