@@ -1,5 +1,5 @@
 -- The first number of a stretch that has a property: every place that an answer names is one.
-use mathlib.Core.Bool.{Bool, true, false, cond}
+use mathlib.Core.Bool.{Bool, cond}
 use Prim.Native.Nat.{ℕ, zero, suc}
 
 -- the first of the c numbers from v on that has p, and v + c if none has

@@ -1,7 +1,6 @@
 -- The limits of an automaton and the numbers of the modes. The code has them as constants of `Automaton` and `Mode`;
 -- the promises of `check` and `Mode::named` hold the two together.
 use Prim.Native.Nat.{ℕ, zero, suc}
-use Rattle.automaton.specs.declared.Mode.{Mode}
 use Rattle.automaton.specs.declared.Mode.the-variants.{Ordinary, Direct, Delayed, Fair}
 use Rattle.automaton.specs.declared.Named.{Named}
 use Rattle.automaton.specs.declared.Named.the-variants.{Known, Unknown}

@@ -3,12 +3,12 @@ use mathlib.Core.Path.{_≡_, refl}
 use mathlib.Core.Logic.{_⊎_, inl, inr}
 use mathlib.Core.Bool.{Bool, true, false}
 use mathlib.Core.List.{List, [], _∷_, List·Memᴰ, List·Memᴰ·head, List·Memᴰ·tail}
-use Prim.Native.Nat.{ℕ, suc, _≤_, _<_, min, max}
+use Prim.Native.Nat.{ℕ, _≤_, _<_, max}
 use native.Mathlib.Nat.{le-refl}
 use native.Mathlib.Omega.{arith}
 use native.Mathlib.Decide.{decLe}
 use lib.Dec.{leb, leb→le, nleb→lt}
-use Rattle.games.specs.Game.{Kind, low, high, counting, resetting, idle, lost, Game, ask, asked, at, lowest, highest, full, ifFull}
+use Rattle.games.specs.Game.{Kind, low, high, counting, resetting, idle, lost, Game, ask, asked, lowest, highest, full, ifFull}
 
 -- ---- Low, High, and "T if High is T, else 0"
 

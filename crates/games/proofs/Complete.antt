@@ -5,7 +5,7 @@ use mathlib.Core.List.{List, [], _∷_, List·Memᴰ}
 use Prim.Native.Nat.{ℕ, zero, suc, _+_, _≤_, _<_}
 use native.Mathlib.Omega.{arith}
 use native.Mathlib.Decide.{ℕ-discrete}
-use Rattle.games.specs.Game.{Kind, low, high, counting, resetting, idle, lost, Game, Inward, ask, at, lowest, highest, full}
+use Rattle.games.specs.Game.{Kind, low, high, counting, resetting, idle, lost, Game, Inward, ask, at, lowest, highest}
 use Rattle.games.specs.Lift.{cleared, lifts}
 use Rattle.games.specs.Play.{isCounting, isResetting, Live, Step, Walk, stop, more, counts, resets, Choice, Wins, Won, count, countingIn}
 use Rattle.games.proofs.Asked.{Full, full-cases, High, highest-in, lowest-le}

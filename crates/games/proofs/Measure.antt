@@ -1,13 +1,13 @@
 -- Whoever holds positions with ranks, by the rules of the game and with no ceiling, wins them. Winning does not depend on the ceiling.
 use mathlib.Core.Path.{_≡_, refl, ap}
-use mathlib.Core.Logic.{_⊎_, inl, inr}
-use mathlib.Core.List.{List, [], _∷_, List·Memᴰ}
+use mathlib.Core.Logic.{inl, inr}
+use mathlib.Core.List.{List, List·Memᴰ}
 use Prim.Native.Nat.{ℕ, zero, suc, _+_, _≤_, _<_, min, max}
-use native.Mathlib.Nat.{le-refl, le-trans}
+use native.Mathlib.Nat.{le-trans}
 use native.Mathlib.Omega.{arith}
 use native.Mathlib.Decide.{ℕ-discrete}
-use Rattle.games.specs.Game.{Kind, low, high, counting, resetting, idle, lost, Game, Inward, ask, at, lowest, highest, full}
-use Rattle.games.specs.Play.{isCounting, isResetting, Step, Walk, stop, more, counts, resets, Won}
+use Rattle.games.specs.Game.{Kind, low, high, counting, resetting, idle, lost, Game, Inward, ask, at, highest, full}
+use Rattle.games.specs.Play.{isCounting, isResetting, Walk, stop, more, counts, resets, Won}
 use Rattle.games.specs.Settle.{settle}
 use Rattle.games.specs.Measure.{Upheld, Ranked, RestOn}
 use Rattle.games.proofs.Asked.{High, highest-in, full-miss, lowest-le}

@@ -3,14 +3,15 @@ use mathlib.Core.Path.{_≡_, refl}
 use mathlib.Core.Logic.{_≢_, _⊎_, inl, inr}
 use mathlib.Core.Bool.{Bool, true, false}
 use mathlib.Core.List.{List, [], _∷_, List·Memᴰ, List·Memᴰ·head, List·Memᴰ·tail, List·Memᴰ·not-nil, List·Memᴰ·cases-cons}
-use Prim.Native.Nat.{ℕ, _+_, _≤_, _<_, min}
+use Prim.Native.Nat.{ℕ, _+_, _≤_, _<_}
 use native.Mathlib.Nat.{le-refl}
 use native.Mathlib.Omega.{arith}
 use native.Mathlib.Decide.{decLt}
 use lib.Dec.{leb, leb→le, nleb→lt}
 use Rattle.games.specs.Game.{Kind, low, high, counting, resetting, idle, lost, Game, Inward, ask, asked, at, lowest, highest, full}
 use Rattle.games.specs.Lift.{AtRest}
-use Rattle.games.specs.Play.{isCounting, isResetting, Step, Walk, stop, more, counts, resets, Choice, Wins, Won, LeastReplies, better, firstLeast, pick}
+use Rattle.games.specs.Play.{isCounting, isResetting, Step, Walk, stop, more, counts, resets, Wins, Won}
+use Rattle.games.specs.Reply.{LeastReplies, better, firstLeast, pick}
 use Rattle.games.proofs.Asked.{Full, full-cases, highest-ge}
 
 -- ---- the first of the least

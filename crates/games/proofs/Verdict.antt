@@ -1,5 +1,4 @@
 -- On the least table at rest an entry is below T exactly if its position is won; so winning is decided.
-use mathlib.Core.Path.{_≡_}
 use mathlib.Core.Logic.{_↔_}
 use mathlib.Core.List.{List}
 use Prim.Native.Nat.{ℕ, _<_}

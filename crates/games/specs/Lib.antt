@@ -2,4 +2,5 @@ pub mod Game
 pub mod Lift
 pub mod Settle
 pub mod Play
+pub mod Reply
 pub mod Measure

@@ -2,7 +2,7 @@
 use mathlib.Core.Path.{refl}
 use Rattle.games.specs.Game.{ask, lowest, highest, full}
 use Rattle.games.specs.Lift.{lift}
-use Rattle.games.specs.Play.{firstLeast}
+use Rattle.games.specs.Reply.{firstLeast}
 use Rattle.simulation.specs.Cases.{AllHold, cases, slips}
 
 pub worked : AllHold cases

@@ -1,11 +1,11 @@
 -- The definitions are neither empty nor full: automata of document 01 are well formed, and pairs of theirs are won and lost by its words.
-use mathlib.Core.Path.{_≡_, refl}
-use Prim.Native.Nat.{ℕ, _<_}
+use mathlib.Core.Path.{refl}
+use Prim.Native.Nat.{_<_}
 use native.Mathlib.Nat.{lt-irrefl}
 use lib.Dec.{lit<}
 use Rattle.games.specs.Game.{ask, lowest, highest, full}
 use Rattle.games.specs.Lift.{lift}
-use Rattle.automaton.specs.declared.Mode.the-variants.{Ordinary, Direct, Delayed, Fair}
+use Rattle.automaton.specs.declared.Mode.the-variants.{Direct, Delayed, Fair}
 use Rattle.automaton.specs.Board.{Formed}
 use Rattle.automaton.specs.Check.{checked}
 use Rattle.automaton.specs.First.{first}

@@ -1,6 +1,6 @@
 -- What a number means in play, for every table at rest: the rounds of mode 2, and the count of mode 3.
 use mathlib.Core.Path.{_≡_, refl, ap, subst}
-use mathlib.Core.Logic.{_≢_, _⊎_, inl, inr}
+use mathlib.Core.Logic.{_≢_, inl, inr}
 use mathlib.Core.Bool.{Bool, true, false, not, _&&_}
 use mathlib.Core.List.{List, [], List·Memᴰ, Memᴰ·of-map, Memᴰ·map}
 use Prim.Native.Nat.{ℕ, zero, suc, _+_, _≤_, _<_}
@@ -12,14 +12,14 @@ use Rattle.games.specs.Lift.{AtRest}
 use Rattle.games.specs.Play.{isCounting}
 use Rattle.games.proofs.Replies.{replies-count, falls}
 use Rattle.automaton.specs.declared.Mode.{Mode}
-use Rattle.automaton.specs.declared.Mode.the-variants.{Ordinary, Direct, Delayed, Fair}
+use Rattle.automaton.specs.declared.Mode.the-variants.{Delayed, Fair}
 use Rattle.automaton.specs.Board.{Board, accepts, Formed}
 use Rattle.simulation.specs.Moves.{Arrow, arrows, targets}
-use Rattle.simulation.specs.Position.{Position, spoiler, duplicator, number, Fits}
-use Rattle.simulation.specs.Rules.{pended, eased, challenge, reply, steps, turn, bit, ceiling, game, beginning}
+use Rattle.simulation.specs.Position.{Position, spoiler, duplicator, number}
+use Rattle.simulation.specs.Rules.{pended, eased, challenge, reply, turn, bit, ceiling, game, beginning}
 use Rattle.simulation.specs.Won.{Choices, Keeps, Walks, here, onward, Met, Answered}
 use Rattle.simulation.specs.Answers.{replies}
-use Rattle.simulation.specs.Meaning.{Brings, Idle, Plays, starts, goes, ahead, tally, total, Leaves}
+use Rattle.simulation.specs.Meaning.{Brings, Idle, Plays, starts, goes, ahead, tally, tallyAll, Leaves}
 use Rattle.simulation.proofs.Position.{number-lt}
 use Rattle.simulation.proofs.Inward.{inward}
 use Rattle.simulation.proofs.Turns.{isIdle, Live, owed-live, countingAt, resettingAt, resetting-relief}
@@ -160,6 +160,6 @@ fair-live false false = refl
 pub fair-count : (B : Board) → Formed B → (t : List ℕ) → AtRest (game B Fair) t → (q r : ℕ) → q < B .n → r < B .n
     → at t (number B Fair (spoiler 0 q r)) < ceiling B Fair
     → {u : Position} (c : Walks B Fair (replies B Fair t) (spoiler 0 q r) u)
-    → (Leaves (Answered B) c → ⊥) → total (ahead B) c ≤ at t (number B Fair (spoiler 0 q r))
+    → (Leaves (Answered B) c → ⊥) → tallyAll (ahead B) c ≤ at t (number B Fair (spoiler 0 q r))
 fair-count B F t rest q r h l b {u} c n =
     omega (arith, walk-count B F Fair t rest ((omega arith, h, l), fair-live (accepts B q) (accepts B r)) b c (unanswered B c n), aheads B c, ahead-counting B u)

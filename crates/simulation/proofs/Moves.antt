@@ -2,30 +2,35 @@
 use mathlib.Core.Path.{_≡_, refl, sym, ap}
 use mathlib.Core.Logic.{_⊎_, inl, inr, _↔_}
 use mathlib.Core.Bool.{Bool, true, false, _&&_}
-use mathlib.Core.List.{List, [], _∷_, _++_, List·Memᴰ, List·Memᴰ·head, List·Memᴰ·not-nil, List·Memᴰ·append-cases, List·Memᴰ·eq-of-singleton, Memᴰ·append-left, Memᴰ·append-right}
+use mathlib.Core.List.{List, [], _∷_, List·Memᴰ, List·Memᴰ·head, List·Memᴰ·not-nil, List·Memᴰ·append-cases, List·Memᴰ·eq-of-singleton, Memᴰ·append-left, Memᴰ·append-right}
 use Prim.Native.Nat.{ℕ, zero, suc, _+_, _*_, _<_}
 use native.Mathlib.Omega.{arith}
 use lib.Dec.{eqb}
-use lib.ListN.{length, getD}
+use lib.ListN.{length}
 use borrow.Author.Tests.{eqb-true, eq-eqb}
 use Rattle.automaton.specs.Board.{Board, from, letter, to, Formed}
 use Rattle.simulation.specs.Moves.{only, gather, targets, Arrow, arrows, Moves}
 
 -- ---- what is gathered
 
+-- move i of the list after its first move is move i + 1 of the list
+pub move-past : (x y z : ℕ) (ms : List ℕ) (R : ℕ → ℕ → ℕ → Type 0) (i : ℕ)
+    → R (from (x ∷ y ∷ z ∷ ms) (suc i)) (letter (x ∷ y ∷ z ∷ ms) (suc i)) (to (x ∷ y ∷ z ∷ ms) (suc i)) → R (from ms i) (letter ms i) (to ms i)
+move-past x y z ms R i r = rw (past 1, past 2, past₀) at r
+  where
+    past : (j : ℕ) → suc i * 3 + j ≡ suc (suc (suc (i * 3 + j)))
+    past j = omega arith
+
+    past₀ : suc i * 3 ≡ suc (suc (suc (i * 3)))
+    past₀ = omega arith
+
 -- what f makes of move i
-abbrev pub made : {X : Type 0} → (f : ℕ → ℕ → ℕ → List X) → (moves : List ℕ) → ℕ → List X
+abbrev made : {X : Type 0} → (f : ℕ → ℕ → ℕ → List X) → (moves : List ℕ) → ℕ → List X
 made f ms i = f (from ms i) (letter ms i) (to ms i)
 
 module _ {X : Type 0} (f : ℕ → ℕ → ℕ → List X) where
-  pub made-suc : (x y z : ℕ) (ms : List ℕ) (i : ℕ) → made f (x ∷ y ∷ z ∷ ms) (suc i) ≡ made f ms i
-  made-suc x y z ms i = rw (past 1, past 2, past₀)
-    where
-      past : (j : ℕ) → suc i * 3 + j ≡ suc (suc (suc (i * 3 + j)))
-      past j = omega arith
-
-      past₀ : suc i * 3 ≡ suc (suc (suc (i * 3)))
-      past₀ = omega arith
+  made-suc : (x y z : ℕ) (ms : List ℕ) (i : ℕ) → made f (x ∷ y ∷ z ∷ ms) (suc i) ≡ made f ms i
+  made-suc x y z ms i = move-past x y z ms (λ u v w. made f (x ∷ y ∷ z ∷ ms) (suc i) ≡ f u v w) i refl
 
   -- what is gathered is made of some move, and what is made of a move is gathered
   gathered : {w : X} (ms : List ℕ) → List·Memᴰ w (gather f ms) → (i : ℕ) × (i * 3 + 2 < length ms) × List·Memᴰ w (made f ms i)

@@ -1,5 +1,5 @@
 -- The replies of a table at rest are least replies, each the lowest numbered of the least, and there is one wherever the entry is below T.
-use mathlib.Core.Path.{_≡_, refl, sym, ap, _∙_, subst}
+use mathlib.Core.Path.{_≡_, refl, ap, _∙_, subst}
 use mathlib.Core.Logic.{_≢_, _⊎_, inl, inr}
 use mathlib.Core.Bool.{Bool, true, false}
 use mathlib.Core.List.{List, [], _∷_, map, List·Memᴰ, List·Memᴰ·not-nil, List·Memᴰ·cases-cons, Memᴰ·of-map}
@@ -9,19 +9,19 @@ use lib.Dec.{leb, nleb→lt}
 use borrow.Author.Tests.{lt-leb}
 use Rattle.games.specs.Game.{low, at}
 use Rattle.games.specs.Lift.{AtRest}
-use Rattle.games.specs.Play.{LeastReplies, better, firstLeast, pick, Wins}
+use Rattle.games.specs.Reply.{LeastReplies, better, firstLeast, pick}
 use Rattle.games.proofs.Replies.{pick-in, pick-le, replies-win}
 use Rattle.automaton.specs.declared.Mode.{Mode}
 use Rattle.automaton.specs.Board.{Board, accepts, Formed}
-use Rattle.simulation.specs.Moves.{targets, Moves}
+use Rattle.simulation.specs.Moves.{targets}
 use Rattle.simulation.specs.Position.{Position, spoiler, duplicator, number, position, Fits}
 use Rattle.simulation.specs.Rules.{reply, steps, kindOf, ceiling, game}
 use Rattle.simulation.specs.Won.{Chosen, here, WonBy}
-use Rattle.simulation.specs.Answers.{entryAfter, replies, Reply, blue, no, lostOr, someMove, replyOn, replyAt}
+use Rattle.simulation.specs.Answers.{entryAfter, replies, blue, lostOr, someMove, replyOn, replyAt}
 use Rattle.simulation.specs.Meaning.{LowestLeast}
 use Rattle.simulation.proofs.Moves.{targets-moves}
 use Rattle.simulation.proofs.Rising.{Rising, rising-ge, targets-rising}
-use Rattle.simulation.proofs.Position.{number-lt, position-number, position-fits}
+use Rattle.simulation.proofs.Position.{number-lt, position-number}
 use Rattle.simulation.proofs.Inward.{inward}
 use Rattle.simulation.proofs.Turns.{isLow, turn-low}
 use Rattle.simulation.proofs.Walks.{Good}

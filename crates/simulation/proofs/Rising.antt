@@ -1,15 +1,16 @@
 -- The targets of a state by a letter ascend, since the moves do.
 use mathlib.Core.Path.{_≡_, refl, subst}
-use mathlib.Core.Logic.{_⊎_, inl, inr}
+use mathlib.Core.Logic.{inl, inr}
 use mathlib.Core.Bool.{Bool, true, false, _&&_}
 use mathlib.Core.List.{List, [], _∷_, _++_, List·Memᴰ, List·Memᴰ·head, List·Memᴰ·tail}
-use Prim.Native.Nat.{ℕ, zero, suc, _+_, _*_, _≤_, _<_}
+use Prim.Native.Nat.{ℕ, suc, _+_, _*_, _≤_, _<_}
 use native.Mathlib.Omega.{arith}
 use lib.Dec.{eqb}
-use lib.ListN.{length, getD}
+use lib.ListN.{length}
 use borrow.Author.Tests.{eqb-true}
 use Rattle.automaton.specs.Board.{Board, from, letter, to, Above, Formed}
 use Rattle.simulation.specs.Moves.{only, gather, targets}
+use Rattle.simulation.proofs.Moves.{move-past}
 
 above-trans : (x y z x′ y′ z′ x″ y″ z″ : ℕ) → Above x y z x′ y′ z′ → Above x′ y′ z′ x″ y″ z″ → Above x y z x″ y″ z″
 above-trans x y z x′ y′ z′ x″ y″ z″ (inl a) (inl b) = inl (omega arith)
@@ -38,17 +39,6 @@ over-trans x y z x′ y′ z′ [] a o = tt
 over-trans x y z x′ y′ z′ (u ∷ []) a o = tt
 over-trans x y z x′ y′ z′ (u ∷ v ∷ []) a o = tt
 over-trans x y z x′ y′ z′ (u ∷ v ∷ w ∷ ms) a o = (above-trans x y z x′ y′ z′ u v w a (o .0), over-trans x y z x′ y′ z′ ms a (o .1))
-
--- move i of the list after its first move is move i + 1 of the list
-move-past : (x y z : ℕ) (ms : List ℕ) (R : ℕ → ℕ → ℕ → Type 0) (i : ℕ)
-    → R (from (x ∷ y ∷ z ∷ ms) (suc i)) (letter (x ∷ y ∷ z ∷ ms) (suc i)) (to (x ∷ y ∷ z ∷ ms) (suc i)) → R (from ms i) (letter ms i) (to ms i)
-move-past x y z ms R i r = rw (past 1, past 2, past₀) at r
-  where
-    past : (j : ℕ) → suc i * 3 + j ≡ suc (suc (suc (i * 3 + j)))
-    past j = omega arith
-
-    past₀ : suc i * 3 ≡ suc (suc (suc (i * 3)))
-    past₀ = omega arith
 
 -- each move is above the one before it
 abbrev Consecutive : List ℕ → Type 0

@@ -1,7 +1,7 @@
 -- Walks that keep to a choice: they stay in range and never come to an idle position; what they meet, by counting.
 use mathlib.Core.Path.{_≡_, refl, subst}
 use mathlib.Core.Logic.{_⊎_, inl, inr}
-use mathlib.Core.List.{List, List·Memᴰ, Memᴰ·of-map}
+use mathlib.Core.List.{List·Memᴰ, Memᴰ·of-map}
 use Prim.Native.Nat.{ℕ, _+_, _<_}
 use native.Mathlib.Omega.{arith}
 use native.Mathlib.Decide.{decLt}
@@ -12,7 +12,7 @@ use Rattle.automaton.specs.Board.{Board, accepts, Formed}
 use Rattle.simulation.specs.Moves.{arrows, targets}
 use Rattle.simulation.specs.Position.{Position, spoiler, duplicator, Fits}
 use Rattle.simulation.specs.Rules.{challenge, reply, steps, kindOf, beginning}
-use Rattle.simulation.specs.Won.{Choices, Keeps, Walks, here, onward, long, Meets, Returning, Obeys}
+use Rattle.simulation.specs.Won.{Choices, Walks, here, onward, long, Meets, Returning, Obeys}
 use Rattle.simulation.specs.Meaning.{tally}
 use Rattle.simulation.proofs.Inward.{steps-fit}
 use Rattle.simulation.proofs.Turns.{Trigger, Relief, Live, eased-live, owed-live, owed-lt, never-lost, lost-ahead, ahead-lost}

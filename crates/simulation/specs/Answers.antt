@@ -4,7 +4,8 @@ use mathlib.Core.List.{List, [], _∷_, map}
 use Prim.Native.Nat.{ℕ, _*_, _/_, _%_}
 use lib.Dec.{leb, ltb}
 use Rattle.games.specs.Game.{at}
-use Rattle.games.specs.Play.{count, pick}
+use Rattle.games.specs.Play.{count}
+use Rattle.games.specs.Reply.{pick}
 use Rattle.games.specs.Settle.{Outcome, ascending, settle}
 use Rattle.automaton.specs.declared.Mode.{Mode}
 use Rattle.automaton.specs.Board.{Board}

@@ -84,10 +84,10 @@ cases =
 abbrev pub boardEarly : Board
 boardEarly = record { n = 3; k = 1; marks = 0 ∷ 0 ∷ 1 ∷ []; moves = 0 ∷ 0 ∷ 0 ∷ 1 ∷ 0 ∷ 2 ∷ 2 ∷ 0 ∷ 0 ∷ [] }
 
--- 0 to 2, 1 to 0, accept 1 and 2. With Red on 1 and Blue on 0 Blue answers at once, and is stuck a round later;
+-- 0 to 1, 1 to 2, accept 1 and 2. With Red on 0 and Blue on 1 both come to accept in the same round, and Blue is stuck in the next;
 -- were b left at 1, the position in between would pass for idle and the pair for won.
 abbrev pub boardMet : Board
-boardMet = record { n = 3; k = 1; marks = 0 ∷ 1 ∷ 1 ∷ []; moves = 0 ∷ 0 ∷ 2 ∷ 1 ∷ 0 ∷ 0 ∷ [] }
+boardMet = record { n = 3; k = 1; marks = 0 ∷ 1 ∷ 1 ∷ []; moves = 0 ∷ 0 ∷ 1 ∷ 1 ∷ 0 ∷ 2 ∷ [] }
 
 -- two letters: 0 loops by the one, 1 by the other
 abbrev pub boardTwo : Board
@@ -98,7 +98,7 @@ slips =
     -- "Clearing b before Blue moves"
     numbers (relationOf boardEarly Delayed) (1 ∷ 1 ∷ 1 ∷ 0 ∷ 1 ∷ 0 ∷ 0 ∷ 1 ∷ 1 ∷ [])
     -- "Red accepts and Blue answers in the same round: met."
-    ∷ numbers (relationOf boardMet Delayed) (1 ∷ 1 ∷ 0 ∷ 0 ∷ 1 ∷ 0 ∷ 1 ∷ 1 ∷ 1 ∷ [])
+    ∷ numbers (relationOf boardMet Delayed) (1 ∷ 0 ∷ 0 ∷ 1 ∷ 1 ∷ 0 ∷ 1 ∷ 1 ∷ 1 ∷ [])
     -- "or when Red leaves F"
     ∷ numbers (relationOf boardC Delayed) (1 ∷ 0 ∷ 1 ∷ 1 ∷ [])
     -- "Giving a Duplicator without moves the entry 0."

@@ -5,7 +5,7 @@ use mathlib.Core.Bool.{true, not, _&&_}
 use mathlib.Core.List.{List, List·Memᴰ}
 use Prim.Native.Nat.{ℕ, zero, suc, _+_, _≤_}
 use Rattle.automaton.specs.declared.Mode.{Mode}
-use Rattle.automaton.specs.declared.Mode.the-variants.{Ordinary, Direct, Delayed, Fair}
+use Rattle.automaton.specs.declared.Mode.the-variants.{Delayed}
 use Rattle.automaton.specs.Board.{Board, accepts}
 use Rattle.simulation.specs.Position.{Position, spoiler, duplicator}
 use Rattle.simulation.specs.Rules.{bit, steps}
@@ -53,8 +53,8 @@ module _ {B : Board} {m : Mode} {σ : Choices} {p : Position} where
   tally f (onward {u = u} c s) = tally f c + f u
 
   -- the sum over all its positions, the two ends counted
-  abbrev pub total : (f : Position → ℕ) → {u : Position} → Walks B m σ p u → ℕ
-  total f {u} c = tally f c + f u
+  abbrev pub tallyAll : (f : Position → ℕ) → {u : Position} → Walks B m σ p u → ℕ
+  tallyAll f {u} c = tally f c + f u
 
   -- a position of which X holds comes before the end of the walk
   abbrev pub Leaves : (X : Position → Type 0) → {u : Position} → Walks B m σ p u → Type 0
