@@ -1,8 +1,8 @@
--- The laws of a table of refusals: when a line finds no fault, when none does, and that the answer's number then is 0.
-use mathlib.Core.Path.{_≡_, refl}
+-- The laws of a table of refusals: when a line finds no fault, when none does, and what the answer's number tells of it.
+use mathlib.Core.Path.{_≡_, refl, sym}
 use mathlib.Core.Logic.{_↔_, Iff·trans}
 use mathlib.Core.Bool.{Bool, true, false, true≢false}
-use mathlib.Core.List.{List, [], _∷_}
+use mathlib.Core.List.{List, [], _∷_, _++_}
 use Prim.Native.Nat.{ℕ, _<_}
 use native.Mathlib.Omega.{arith}
 use lib.Dec.{ltb}
@@ -10,11 +10,11 @@ use borrow.Author.Tests.{ltb-false, le-ltb}
 use Rattle.automaton.specs.Answer.{Answer, numberOf, Fault, none, fault, fails, failsAt, firstFault, unless}
 use Rattle.automaton.specs.First.{first}
 use Rattle.automaton.specs.declared.Refusal.{Refusal}
-use Rattle.automaton.specs.declared.Refusal.the-variants.{States, Letters, Marks, Start, Bytes, Outside, Unsorted}
+use Rattle.automaton.specs.declared.Refusal.the-variants.{States, Letters, Marks, Start, Bytes, Outside, Unsorted, ModeNumber, TableLength, AboveCeiling, PositionNumber}
 use Rattle.automaton.proofs.First.{first-lowest, first-none}
 
 -- no refusal has the number 0
-refusal-numbered : (r : Refusal) → 0 < numberOf r
+pub refusal-numbered : (r : Refusal) → 0 < numberOf r
 refusal-numbered States = omega arith
 refusal-numbered Letters = omega arith
 refusal-numbered (Marks i) = omega arith
@@ -22,6 +22,10 @@ refusal-numbered Start = omega arith
 refusal-numbered Bytes = omega arith
 refusal-numbered (Outside i) = omega arith
 refusal-numbered (Unsorted i) = omega arith
+refusal-numbered ModeNumber = omega arith
+refusal-numbered TableLength = omega arith
+refusal-numbered (AboveCeiling i) = omega arith
+refusal-numbered PositionNumber = omega arith
 
 -- a line of the table that finds no fault exactly if P holds
 abbrev pub Line : Fault → Type 0 → Type 0
@@ -55,11 +59,28 @@ pub data Table : List Fault → Type 0 → Type 1 where
   end : Table [] (Unit {0})
   _then_ : {f : Fault} {fs : List Fault} {P Q : Type 0} → Line f P → Table fs Q → Table (f ∷ fs) (P × Q)
 
--- a call's number is 0 exactly if its table finds no fault
-pub table-zero : {fs : List Fault} {P : Type 0} → Table fs P → (a : Answer) → a .number ≡ 0 → (unless (firstFault fs) a .number ≡ 0) ↔ P
-table-zero end a z = (λ e. tt, λ e. z)
-table-zero (_then_ {f} {fs} {P} {Q} l t) a z = go f l (table-zero t a z)
+-- none of its lines finds a fault exactly if all that they ask for holds
+pub table-line : {fs : List Fault} {P : Type 0} → Table fs P → Line (firstFault fs) P
+table-line end = (λ e. tt, λ e. refl)
+table-line (_then_ {f} {fs} {P} {Q} l t) = go f l (table-line t)
   where
-    go : (g : Fault) → Line g P → (unless (firstFault fs) a .number ≡ 0) ↔ Q → (unless (firstFault (g ∷ fs)) a .number ≡ 0) ↔ (P × Q)
+    go : (g : Fault) → Line g P → Line (firstFault fs) Q → Line (firstFault (g ∷ fs)) (P × Q)
     go none r q = (λ e. (r .0 refl, q .0 e), λ h. q .1 (h .1))
-    go (fault x) r q = (λ e. absurd (omega (arith, refusal-numbered x)), λ h. absurd (found (r .1 (h .0))))
+    go (fault x) r q = (λ e. absurd (found e), λ h. absurd (found (r .1 (h .0))))
+
+-- the lines after some that decide, or that do not
+pub faults-passed : (fs gs : List Fault) → firstFault fs ≡ none → firstFault (fs ++ gs) ≡ firstFault gs
+faults-passed [] gs e = refl
+faults-passed (none ∷ fs) gs e = faults-passed fs gs e
+faults-passed (fault r ∷ fs) gs e = absurd (found e)
+
+pub faults-stopped : (fs gs : List Fault) (r : Refusal) → firstFault fs ≡ fault r → firstFault (fs ++ gs) ≡ fault r
+faults-stopped [] gs r e = absurd (found (sym e))
+faults-stopped (none ∷ fs) gs r e = faults-stopped fs gs r e
+faults-stopped (fault x ∷ fs) gs r e = e
+
+-- ---- from an answer back to what was at fault
+
+pub unless-number : (f : Fault) (a : Answer) → a .number ≡ 0 → (unless f a .number ≡ 0) ↔ (f ≡ none)
+unless-number none a z = (λ e. refl, λ e. z)
+unless-number (fault x) a z = (λ e. absurd (omega (arith, refusal-numbered x)), λ e. absurd (found e))

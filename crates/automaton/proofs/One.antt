@@ -1,33 +1,61 @@
--- The promise of `check` leaves no choice: two results with the same number, place and values are the same.
+-- An answer leaves no choice: a refusal is told by its number and place, and two results of `check` with the same answer are the same.
 use mathlib.Core.Path.{_≡_, refl, sym, ap, _∙_}
-use Prim.Native.Nat.{ℕ, zero, suc}
-use Rattle.automaton.specs.Answer.{Answer}
+use mathlib.Core.Logic.{_↔_}
+use Prim.Native.Nat.{ℕ, zero, suc, _<_}
+use native.Mathlib.Omega.{arith}
+use Rattle.automaton.specs.Answer.{Answer, accepted, refused, numberOf, placeOf, Fault, none, fault, unless}
 use Rattle.automaton.specs.Check.{answerOf}
-use Rattle.automaton.specs.declared.Refusal.the-variants.{States, Letters, Marks, Start, Bytes, Outside, Unsorted}
+use Rattle.automaton.specs.declared.Refusal.{Refusal}
+use Rattle.automaton.specs.declared.Refusal.the-variants.{States, Letters, Marks, Start, Bytes, Outside, Unsorted, ModeNumber, TableLength, AboveCeiling, PositionNumber}
 use Rattle.automaton.specs.declared.Checked.{Checked}
 use Rattle.automaton.specs.declared.Checked.the-variants.{Sound, Refused}
+use Rattle.automaton.proofs.Fault.{refusal-numbered, unless-number}
 
--- the result with a given number and place
-resultAt : (number place : ℕ) → Checked
-resultAt zero p = Sound
-resultAt (suc zero) p = Refused States
-resultAt (suc (suc zero)) p = Refused Letters
-resultAt (suc (suc (suc zero))) p = Refused (Marks p)
-resultAt (suc (suc (suc (suc zero)))) p = Refused Start
-resultAt (suc (suc (suc (suc (suc zero))))) p = Refused Bytes
-resultAt (suc (suc (suc (suc (suc (suc zero)))))) p = Refused (Outside p)
-resultAt (suc (suc (suc (suc (suc (suc (suc n))))))) p = Refused (Unsorted p)
+-- the refusal with a given number and place, counted from number 1
+refusalAt : (number place : ℕ) → Refusal
+refusalAt zero p = States
+refusalAt (suc zero) p = States
+refusalAt (suc (suc zero)) p = Letters
+refusalAt (suc (suc (suc zero))) p = Marks p
+refusalAt (suc (suc (suc (suc zero)))) p = Start
+refusalAt (suc (suc (suc (suc (suc zero))))) p = Bytes
+refusalAt (suc (suc (suc (suc (suc (suc zero)))))) p = Outside p
+refusalAt (suc (suc (suc (suc (suc (suc (suc zero))))))) p = Unsorted p
+refusalAt (suc (suc (suc (suc (suc (suc (suc (suc zero)))))))) p = ModeNumber
+refusalAt (suc (suc (suc (suc (suc (suc (suc (suc (suc zero))))))))) p = TableLength
+refusalAt (suc (suc (suc (suc (suc (suc (suc (suc (suc (suc zero)))))))))) p = AboveCeiling p
+refusalAt (suc (suc (suc (suc (suc (suc (suc (suc (suc (suc (suc n))))))))))) p = PositionNumber
 
-resultAt-is : (r : Checked) → resultAt (answerOf r .number) (answerOf r .place) ≡ r
-unfolding resultAt
-resultAt-is Sound = refl
-resultAt-is (Refused States) = refl
-resultAt-is (Refused Letters) = refl
-resultAt-is (Refused (Marks i)) = refl
-resultAt-is (Refused Start) = refl
-resultAt-is (Refused Bytes) = refl
-resultAt-is (Refused (Outside i)) = refl
-resultAt-is (Refused (Unsorted i)) = refl
+refusalAt-is : (r : Refusal) → refusalAt (numberOf r) (placeOf r) ≡ r
+unfolding refusalAt
+refusalAt-is States = refl
+refusalAt-is Letters = refl
+refusalAt-is (Marks i) = refl
+refusalAt-is Start = refl
+refusalAt-is Bytes = refl
+refusalAt-is (Outside i) = refl
+refusalAt-is (Unsorted i) = refl
+refusalAt-is ModeNumber = refl
+refusalAt-is TableLength = refl
+refusalAt-is (AboveCeiling i) = refl
+refusalAt-is PositionNumber = refl
+
+pub one-refusal : (r s : Refusal) → refused r ≡ refused s → r ≡ s
+one-refusal r s e = sym (refusalAt-is r) ∙ ap (λ (a : Answer). refusalAt (a .number) (a .place)) e ∙ refusalAt-is s
+
+pub refused-not : (r : Refusal) (a : Answer) → a .number ≡ 0 → refused r ≡ a → ⊥
+refused-not r a z e = let n : numberOf r ≡ a .number = ap (λ (x : Answer). x .number) e in omega (arith, refusal-numbered r)
+
+-- what was at fault, from the answer of a call
+pub unless-refused : (f : Fault) (a : Answer) (r : Refusal) → a .number ≡ 0 → refused r ≡ unless f a → f ≡ fault r
+unless-refused none a r z e = absurd (refused-not r a z e)
+unless-refused (fault s) a r z e = ap fault (sym (one-refusal r s e))
+
+pub unless-accepted : (f : Fault) (a : Answer) → a .number ≡ 0 → accepted ≡ unless f a → f ≡ none
+unless-accepted f a z e = unless-number f a z .0 (sym (ap (λ (x : Answer). x .number) e))
 
 pub one-result : (r s : Checked) → answerOf r ≡ answerOf s → r ≡ s
-one-result r s e = sym (resultAt-is r) ∙ ap (λ (a : Answer). resultAt (a .number) (a .place)) e ∙ resultAt-is s
+one-result Sound Sound e = refl
+one-result Sound (Refused s) e = absurd (refused-not s accepted refl (sym e))
+one-result (Refused r) Sound e = absurd (refused-not r accepted refl e)
+one-result (Refused r) (Refused s) e = ap Refused (one-refusal r s e)

@@ -2,19 +2,19 @@
 use mathlib.Core.Path.{_≡_, refl, ap}
 use mathlib.Core.Logic.{_⊎_, inl, inr, _↔_, Iff·trans}
 use mathlib.Core.Bool.{Bool, true, false, _&&_, _||_, not, cond, true≢false, false≢true, and-eq-true-iff}
-use mathlib.Core.List.{List}
+use mathlib.Core.List.{List, [], _∷_}
 use Prim.Native.Nat.{ℕ, zero, suc, _+_, _*_, _/_, _%_, _≤_, _<_}
 use native.Mathlib.Omega.{arith}
 use lib.Dec.{eqb, ltb, leb}
 use lib.ListN.{length, getD}
 use borrow.Author.Tests.{ltb-true, ltb-false, leb-false, eqb-true, not-false, lt-ltb, le-ltb, lt-leb, eq-eqb}
-use Rattle.automaton.specs.Answer.{none, fault, fails, failsAt, accepted}
+use Rattle.automaton.specs.Answer.{none, fault, fails, failsAt, firstFault, accepted}
 use Rattle.automaton.specs.Board.{Board, Formed, from, letter, to, above, Above, outside, unsorted}
-use Rattle.automaton.specs.Check.{high, checked}
+use Rattle.automaton.specs.Check.{high, statesFault, lettersFault, automatonFault, checked}
 use Rattle.automaton.specs.Limits.{mostStates, mostLetters}
 use Rattle.automaton.specs.declared.Refusal.{Refusal}
 use Rattle.automaton.specs.declared.Refusal.the-variants.{States, Letters, Marks, Start, Bytes, Outside, Unsorted}
-use Rattle.automaton.proofs.Fault.{Line, always-line, fails-line, failsAt-line, _then_, end, table-zero}
+use Rattle.automaton.proofs.Fault.{Line, always-line, fails-line, failsAt-line, _then_, end, table-line, unless-number}
 
 -- ---- what each test says
 
@@ -103,9 +103,11 @@ module _ (ms : List ℕ) where
 
 -- ---- all of them
 
-pub sound : (B : Board) (start : ℕ) → (checked B start .number ≡ 0) ↔ (Formed B × (start < B .n))
-unfolding checked
-sound B start =
+pub limits-line : (n k : ℕ) → Line (firstFault (statesFault n ∷ lettersFault k ∷ [])) (((0 < n) × (n ≤ mostStates)) × ((0 < k) × (k ≤ mostLetters)))
+limits-line n k = Iff·trans (table-line (range-line n mostStates States then range-line k mostLetters Letters then end)) (λ a. (a .0, a .1 .0), λ h. (h .0, (h .1, tt)))
+
+pub automaton-line : (B : Board) (start : ℕ) → Line (automatonFault B start) (Formed B × (start < B .n))
+automaton-line B start =
     let table =
     range-line (B .n) mostStates States then
     range-line (B .k) mostLetters Letters then
@@ -115,7 +117,7 @@ sound B start =
     inside-line (B .moves) (B .n) (B .k) then
     order-line (B .moves) then
     end in
-    Iff·trans (table-zero table accepted refl) (
+    Iff·trans (table-line table) (
       λ a.
           let b = a .1 .1 in
           let d = b .1 .1 in (
@@ -134,3 +136,7 @@ sound B start =
           ),
       λ h. let F = h .0 in ((F .states, F .few), ((F .letters, F .few-letters), ((F .marked, F .binary), (h .1, (F .whole, (F .inside, (F .order, tt))))))),
     )
+
+pub sound : (B : Board) (start : ℕ) → (checked B start .number ≡ 0) ↔ (Formed B × (start < B .n))
+unfolding checked
+sound B start = Iff·trans (unless-number (automatonFault B start) accepted refl) (automaton-line B start)

@@ -5,7 +5,7 @@ use Prim.Native.Nat.{ℕ}
 use lib.Dec.{ltb}
 use Rattle.automaton.specs.First.{first}
 use Rattle.automaton.specs.declared.Refusal.{Refusal}
-use Rattle.automaton.specs.declared.Refusal.the-variants.{States, Letters, Marks, Start, Bytes, Outside, Unsorted}
+use Rattle.automaton.specs.declared.Refusal.the-variants.{States, Letters, Marks, Start, Bytes, Outside, Unsorted, ModeNumber, TableLength, AboveCeiling, PositionNumber}
 
 -- A number, a place and three values; a call that names fewer values has 0 for the others.
 pub record Answer : Type 0 where
@@ -17,6 +17,10 @@ pub record Answer : Type 0 where
 abbrev pub accepted : Answer
 accepted = record { number = 0; place = 0; values = 0 ∷ 0 ∷ 0 ∷ [] }
 
+-- an accepted call that names one value
+abbrev pub valued : ℕ → Answer
+valued x = record { number = 0; place = 0; values = x ∷ 0 ∷ 0 ∷ [] }
+
 -- "Numbers of refusal": the number and the place of each
 abbrev pub numberOf : Refusal → ℕ
 numberOf States = 1
@@ -26,6 +30,10 @@ numberOf Start = 4
 numberOf Bytes = 5
 numberOf (Outside i) = 6
 numberOf (Unsorted i) = 7
+numberOf ModeNumber = 8
+numberOf TableLength = 9
+numberOf (AboveCeiling i) = 10
+numberOf PositionNumber = 11
 
 abbrev pub placeOf : Refusal → ℕ
 placeOf States = 0
@@ -35,6 +43,10 @@ placeOf Start = 0
 placeOf Bytes = 0
 placeOf (Outside i) = i
 placeOf (Unsorted i) = i
+placeOf ModeNumber = 0
+placeOf TableLength = 0
+placeOf (AboveCeiling i) = i
+placeOf PositionNumber = 0
 
 -- "Every refused call returns its number, a place and values 0"
 abbrev pub refused : Refusal → Answer

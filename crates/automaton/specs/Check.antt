@@ -15,17 +15,22 @@ use Rattle.automaton.specs.declared.Checked.the-variants.{Sound, Refused
 abbrev pub high : List ℕ → ℕ → Bool
 high marks i = ltb 1 (getD marks i 0)
 
--- "not n marks; else a mark above 1" at "n; else its index"
+-- 1: "n not 1..64"
+abbrev pub statesFault : (n : ℕ) → Fault
+statesFault n = fails (ltb n 1 || ltb mostStates n) States
+
+-- 2: "k not 1..16"
+abbrev pub lettersFault : (k : ℕ) → Fault
+lettersFault k = fails (ltb k 1 || ltb mostLetters k) Letters
+
+-- 3: "not n marks; else a mark above 1" at "n; else its index"
 abbrev pub marksFault : Board → Fault
 marksFault B = cond (eqb (length (B .marks)) (B .n)) (failsAt Marks (high (B .marks)) (B .n)) (fault (Marks (B .n)))
 
 abbrev pub faults : Board → (start : ℕ) → List Fault
 faults B start =
-    -- 1: "n not 1..64"
-    fails (ltb (B .n) 1 || ltb mostStates (B .n)) States
-    -- 2: "k not 1..16"
-    ∷ fails (ltb (B .k) 1 || ltb mostLetters (B .k)) Letters
-    -- 3
+    statesFault (B .n)
+    ∷ lettersFault (B .k)
     ∷ marksFault B
     -- 4: "start not below n"
     ∷ fails (leb (B .n) start) Start
@@ -40,6 +45,10 @@ faults B start =
 -- what is at fault with an automaton, if anything is
 abbrev pub automatonFault : Board → (start : ℕ) → Fault
 automatonFault B start = firstFault (faults B start)
+
+-- what `limits` answers, for every n and k
+unfoldable pub limited : (n k : ℕ) → Answer
+limited n k = unless (firstFault (statesFault n ∷ lettersFault k ∷ [])) accepted
 
 -- what `check` answers, for every input
 unfoldable pub checked : Board → (start : ℕ) → Answer

@@ -5,7 +5,7 @@ ghost use Prim.Native.Nat.{_+_, _*_, _/_, _<_};
 ghost use lib.ListN.{length};
 ghost use Rattle.automaton.specs.Answer.{numberOf, placeOf};
 ghost use Rattle.automaton.specs.Board.{above, boardOf, outside, unsorted};
-ghost use Rattle.automaton.specs.Check.{answerOf, checked, high};
+ghost use Rattle.automaton.specs.Check.{answerOf, checked, high, limited};
 ghost use Rattle.automaton.specs.First.{first};
 ghost use Rattle.automaton.specs.Limits.{nameOf};
 
@@ -68,6 +68,10 @@ pub enum Refusal {
     Bytes,
     Outside(usize),
     Unsorted(usize),
+    ModeNumber,
+    TableLength,
+    AboveCeiling(usize),
+    PositionNumber,
 }
 
 impl Refusal {
@@ -83,6 +87,10 @@ impl Refusal {
             Refusal::Bytes => 5,
             Refusal::Outside(_) => 6,
             Refusal::Unsorted(_) => 7,
+            Refusal::ModeNumber => 8,
+            Refusal::TableLength => 9,
+            Refusal::AboveCeiling(_) => 10,
+            Refusal::PositionNumber => 11,
         }
     }
 
@@ -98,14 +106,33 @@ impl Refusal {
             Refusal::Bytes => 0,
             Refusal::Outside(at) => at,
             Refusal::Unsorted(at) => at,
+            Refusal::ModeNumber => 0,
+            Refusal::TableLength => 0,
+            Refusal::AboveCeiling(at) => at,
+            Refusal::PositionNumber => 0,
         }
     }
 }
 
-// What `check` answers.
+// What `limits` and `check` answer.
 pub enum Checked {
     Sound,
     Refused(Refusal),
+}
+
+// Checks the numbers of states and letters alone: refusals 1 and 2.
+pub fn limits(a: Automaton) -> Checked
+    ensures { λ r. ⌜ answerOf r ≡ limited (a .states) (a .letters) ⌝ }
+{
+    let states = a.states;
+    let letters = a.letters;
+    if states < 1 || Automaton::STATES < states {
+        return Checked::Refused(Refusal::States);
+    }
+    if letters < 1 || Automaton::LETTERS < letters {
+        return Checked::Refused(Refusal::Letters);
+    }
+    Checked::Sound
 }
 
 // Checks an automaton: refusals 1 to 7, the lowest number that applies.
@@ -113,13 +140,11 @@ pub fn check(a: Automaton, marks: &[u8], moves: &[u8]) -> Checked
     ensures { λ r. ⌜ answerOf r ≡ checked (boardOf a (now (marks .entry)) (now (moves .entry))) (a .start) ⌝ }
 {
     let states = a.states;
-    let letters = a.letters;
     let start = a.start;
-    if states < 1 || Automaton::STATES < states {
-        return Checked::Refused(Refusal::States);
-    }
-    if letters < 1 || Automaton::LETTERS < letters {
-        return Checked::Refused(Refusal::Letters);
+    let limited = limits(a);
+    match limited {
+        Checked::Refused(refusal) => return Checked::Refused(refusal),
+        Checked::Sound => {}
     }
     if marks.len() != states {
         return Checked::Refused(Refusal::Marks(states));
