@@ -1,0 +1,51 @@
+-- What the functions below the calls promise each other: the arena of a job, and that it fits the lent bytes.
+use mathlib.Core.Path.{_≡_}
+use mathlib.Core.List.{List, [], _∷_, map}
+use Prim.Native.Nat.{ℕ}
+use lib.ListN.{length}
+use Rattle.games.specs.Game.{Game, ask, at}
+use Rattle.automaton.specs.declared.Mode.{Mode}
+use Rattle.automaton.specs.Answer.{Fault, none, fault, firstFault}
+use Rattle.automaton.specs.Board.{Board, Formed}
+use Rattle.simulation.specs.Position.{Position, pairs, positions, number}
+use Rattle.simulation.specs.Rules.{steps, kindOf, ceiling, game}
+use Rattle.table.specs.declared.arena.Arena.{Arena}
+use Rattle.table.specs.declared.arena.Opened.{Opened}
+use Rattle.table.specs.declared.arena.Opened.the-variants.{Open, Shut}
+use Rattle.table.specs.Job.{Job, modeOf, gameOf}
+use Rattle.table.specs.Calls.{jobFault, lengthFault}
+
+abbrev pub arenaOf : Board → Mode → Arena
+arenaOf B m = record { states = B .n; letters = B .k; mode = m; pairs = pairs B m; top = ceiling B m }
+
+-- the board that an arena and the lent bytes make up, and its game
+abbrev pub boardIn : Arena → (marks moves : List ℕ) → Board
+boardIn g marks moves = record { n = g .states; k = g .letters; marks = marks; moves = moves }
+
+abbrev pub gameIn : Arena → (marks moves : List ℕ) → Game
+gameIn g marks moves = game (boardIn g marks moves) (g .mode)
+
+-- the arena of a checked automaton, and a table of P entries
+pub record Ready (g : Arena) (marks moves table : List ℕ) : Type 0 where
+  pub formed : Formed (boardIn g marks moves)
+  pub paired : g .pairs ≡ pairs (boardIn g marks moves) (g .mode)
+  pub topped : g .top ≡ ceiling (boardIn g marks moves) (g .mode)
+  pub entries : length table ≡ positions (boardIn g marks moves) (g .mode)
+
+-- the arena unless something is at fault: refusals 1 to 8, and 1 to 9 with a table of so many entries
+abbrev pub openedBy : Fault → Arena → Opened
+openedBy none g = Open g
+openedBy (fault r) g = Shut r
+
+unfoldable pub entered : Job → Opened
+entered j = openedBy (jobFault j) (arenaOf (j .board) (modeOf (j .mode)))
+
+unfoldable pub opened : Job → (entries : ℕ) → Opened
+opened j entries = openedBy (firstFault (jobFault j ∷ lengthFault (gameOf j) entries ∷ [])) (arenaOf (j .board) (modeOf (j .mode)))
+
+-- the numbers of the positions one step on, and what a position asks for
+abbrev pub onward : Board → Mode → Position → List ℕ
+onward B m p = map (number B m) (steps B m p)
+
+abbrev pub askedOf : Board → Mode → (table : List ℕ) → Position → ℕ
+askedOf B m t p = ask (kindOf B m p) (ceiling B m) (at t) (onward B m p)

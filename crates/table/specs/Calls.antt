@@ -1,0 +1,88 @@
+-- The calls on a table, for every input: what each answers, and the table after it.
+use mathlib.Core.Bool.{Bool, not, cond}
+use mathlib.Core.List.{List, [], _∷_}
+use Prim.Native.Nat.{ℕ}
+use lib.Dec.{eqb, ltb, leb}
+use lib.ListN.{length}
+use Rattle.games.specs.Game.{Game, asked, at}
+use Rattle.games.specs.Lift.{cleared, lift, rise}
+use Rattle.games.specs.Settle.{Outcome, settle}
+use Rattle.automaton.specs.declared.Automaton.{Automaton}
+use Rattle.automaton.specs.declared.Refusal.the-variants.{ModeNumber, TableLength, AboveCeiling, PositionNumber}
+use Rattle.automaton.specs.Answer.{Answer, accepted, valued, Fault, fails, failsAt, firstFault, unless}
+use Rattle.automaton.specs.Board.{boardOf}
+use Rattle.automaton.specs.Check.{statesFault, lettersFault, automatonFault}
+use Rattle.automaton.specs.First.{first}
+use Rattle.automaton.specs.Limits.{nameOf}
+use Rattle.simulation.specs.Position.{positions}
+use Rattle.table.specs.Job.{Job, isUnknown, modeOf, gameOf, Effect, does}
+
+-- ---- the refusals
+
+-- 8: "mode above 3"
+abbrev pub modeFault : (mode : ℕ) → Fault
+modeFault mode = fails (isUnknown (nameOf mode)) ModeNumber
+
+-- 1 to 8
+abbrev pub jobFault : Job → Fault
+jobFault j = firstFault (automatonFault (j .board) (j .start) ∷ modeFault (j .mode) ∷ [])
+
+-- 9: "table length not P"
+abbrev pub lengthFault : Game → (entries : ℕ) → Fault
+lengthFault g entries = fails (not (eqb entries (g .P))) TableLength
+
+-- 10: "an entry above T" at "first such entry"
+abbrev pub above : (T : ℕ) → (table : List ℕ) → ℕ → Bool
+above T t v = ltb T (at t v)
+
+abbrev pub entryFault : Game → (table : List ℕ) → Fault
+entryFault g t = failsAt AboveCeiling (above (g .T) t) (length t)
+
+-- 11: "position not below P"
+abbrev pub positionFault : Game → ℕ → Fault
+positionFault g v = fails (leb (g .P) v) PositionNumber
+
+-- ---- the two numbers of a table
+
+-- P, after refusals 1, 2 and 8
+abbrev pub sizing : Automaton → (mode : ℕ) → Answer
+sizing a mode =
+    unless (firstFault (statesFault (a .states) ∷ lettersFault (a .letters) ∷ modeFault mode ∷ [])) (valued (positions (boardOf a [] []) (modeOf mode)))
+
+-- T, after refusals 1 to 8
+abbrev pub topping : Job → Answer
+topping j = unless (jobFault j) (valued (gameOf j .T))
+
+-- ---- the four calls: first the refusals 1 to 9, then what each does in the game
+
+abbrev pub opening : Job → (table : List ℕ) → Effect → Effect
+opening j t e = does (firstFault (jobFault j ∷ lengthFault (gameOf j) (length t) ∷ [])) t e
+
+-- "Clear: fill the table with 0."
+unfoldable pub clearing : Job → (table : List ℕ) → Effect
+clearing j t = opening j t (record { answer = accepted; table = cleared (gameOf j) })
+
+-- "Lift one position: value 1 if the entry rose, else 0; no other entry changes."
+unfoldable pub lifted : Game → (table : List ℕ) → ℕ → Effect
+lifted g t v = does (firstFault (entryFault g t ∷ positionFault g v ∷ [])) t (record { answer = valued (rise g t v); table = lift g t v })
+
+unfoldable pub lifting : Job → (table : List ℕ) → ℕ → Effect
+lifting j t v = opening j t (lifted (gameOf j) t v)
+
+-- "A position is at rest when a lift would not raise it": one that is not
+abbrev pub restless : Game → (table : List ℕ) → ℕ → Bool
+restless g t v = ltb (at t v) (asked g (at t) v)
+
+-- "Rest: value 1 if the table is at rest, else 0 with the lowest position not at rest as place."
+abbrev pub restAt : (P lowest : ℕ) → Answer
+restAt P v = cond (ltb v P) (record { number = 0; place = v; values = 0 ∷ 0 ∷ 0 ∷ [] }) (valued 1)
+
+unfoldable pub rested : Game → (table : List ℕ) → Answer
+rested g t = unless (entryFault g t) (restAt (g .P) (first (restless g t) 0 (g .P)))
+
+unfoldable pub resting : Job → (table : List ℕ) → Answer
+resting j t = opening j t (record { answer = rested (gameOf j) t; table = t }) .answer
+
+-- "Settle: clear, then sweep positions in ascending order until a whole sweep raises nothing; value is the number of raises."
+unfoldable pub settling : Job → (table : List ℕ) → Effect
+settling j t = let o = settle (gameOf j) in opening j t (record { answer = valued (o .raised); table = o .table })

@@ -1,0 +1,128 @@
+// The numbers of one automaton's game in one mode, and the refusals 1 to 9 with which the calls on a table begin.
+ghost use mathlib.Core.Path.{_≡_};
+ghost use mathlib.Core.List.{List, []};
+ghost use Prim.Native.Nat.{_≤_};
+ghost use lib.Dec.{eqb};
+ghost use lib.ListN.{length, getD};
+ghost use Rattle.games.specs.Play.{count};
+ghost use Rattle.automaton.specs.Board.{boardOf, Formed};
+ghost use Rattle.automaton.specs.Limits.{mostLetters, mostStates};
+ghost use Rattle.simulation.specs.Position.{pairs, positions};
+ghost use Rattle.simulation.specs.Rules.{bit, ceiling};
+ghost use Rattle.table.specs.Arena.{arenaOf, entered, opened};
+ghost use Rattle.table.specs.Job.{jobOf};
+use automaton::Automaton;
+use automaton::Checked;
+use automaton::Mode;
+use automaton::Named;
+use automaton::Refusal;
+
+// What the work at every position needs: the automaton's numbers, the number of Spoiler's positions, and T.
+pub struct Arena {
+    pub states: usize,
+    pub letters: usize,
+    pub mode: Mode,
+    pub pairs: usize,
+    pub top: u32,
+}
+
+// The arena, or why there is none.
+pub enum Opened {
+    Open(Arena),
+    Shut(Refusal),
+}
+
+// The number of Spoiler's positions.
+pub fn pairs_of(a: Automaton, mode: Mode) -> usize
+    requires { ⌜ a .states ≤ mostStates ⌝ }
+    ensures { λ r. ⌜ r ≡ pairs (boardOf a [] []) mode ⌝ }
+{
+    let states = a.states;
+    match mode {
+        Mode::Ordinary => states * states,
+        Mode::Direct => states * states,
+        Mode::Delayed => 2 * (states * states),
+        Mode::Fair => states * states,
+    }
+}
+
+// P, the number of positions.
+pub fn size(a: Automaton, mode: Mode) -> usize
+    requires { ⌜ a .states ≤ mostStates ⌝ }
+    requires { ⌜ a .letters ≤ mostLetters ⌝ }
+    ensures { λ r. ⌜ r ≡ positions (boardOf a [] []) mode ⌝ }
+{
+    pairs_of(a, mode) * (1 + a.letters)
+}
+
+// The number of accepting states.
+pub fn ones(marks: &[u8]) -> usize
+    ensures { λ r. ⌜ r ≡ count (λ q. bit (eqb (getD (now (marks .entry)) q 0) 1)) (length (now (marks .entry))) ⌝ }
+{
+    let mut ones = 0;
+    let mut q = 0;
+    while q < marks.len() {
+        if marks[q] == 1 {
+            ones += 1;
+        }
+        q += 1;
+    }
+    ones
+}
+
+// T, the largest entry allowed.
+pub fn top(a: Automaton, marks: &[u8], mode: Mode) -> u32
+    requires { ⌜ a .states ≤ mostStates ⌝ }
+    requires { ⌜ length (now marks) ≡ a .states ⌝ }
+    ensures { λ r. ⌜ r ≡ ceiling (boardOf a (now (marks .entry)) []) mode ⌝ }
+{
+    let states = a.states;
+    match mode {
+        Mode::Ordinary => 1,
+        Mode::Direct => 1,
+        Mode::Delayed => (states * (states - ones(marks)) + 1) as u32,
+        Mode::Fair => {
+            let f = ones(marks);
+            (f * (states - f) + 1) as u32
+        }
+    }
+}
+
+// The arena of a checked automaton. Refusals 1 to 8.
+pub fn enter(a: Automaton, marks: &[u8], moves: &[u8], mode: usize) -> Opened
+    ensures { λ r. ⌜ r ≡ entered (jobOf a (now (marks .entry)) (now (moves .entry)) mode) ⌝ }
+{
+    let checked = automaton::check(a, marks, moves);
+    match checked {
+        Checked::Refused(refusal) => return Opened::Shut(refusal),
+        Checked::Sound => {}
+    }
+    let named = Mode::named(mode);
+    match named {
+        Named::Unknown => Opened::Shut(Refusal::ModeNumber),
+        Named::Known(known) => Opened::Open(Arena {
+            states: a.states,
+            letters: a.letters,
+            mode: known,
+            pairs: pairs_of(a, known),
+            top: top(a, marks, known),
+        }),
+    }
+}
+
+// The arena for a table of so many entries. Refusals 1 to 9.
+pub fn open(a: Automaton, marks: &[u8], moves: &[u8], mode: usize, entries: usize) -> Opened
+    ensures { λ r. ⌜ r ≡ opened (jobOf a (now (marks .entry)) (now (moves .entry)) mode) entries ⌝ }
+{
+    let entered = enter(a, marks, moves, mode);
+    match entered {
+        Opened::Shut(refusal) => Opened::Shut(refusal),
+        Opened::Open(g) => {
+            let pairs = g.pairs;
+            if entries != pairs * (1 + a.letters) {
+                return Opened::Shut(Refusal::TableLength);
+            }
+            Opened::Open(g)
+        }
+    }
+}
