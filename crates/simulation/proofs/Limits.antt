@@ -7,7 +7,8 @@ use native.Mathlib.Decide.{decLe}
 use Rattle.automaton.specs.declared.Mode.{Mode}
 use Rattle.automaton.specs.declared.Mode.the-variants.{Ordinary, Direct, Delayed, Fair}
 use Rattle.automaton.specs.Board.{Board, Formed}
-use Rattle.simulation.specs.Position.{layers, positions}
+use Rattle.automaton.specs.Limits.{mostStates, mostLetters}
+use Rattle.simulation.specs.Position.{layers, pairs, positions}
 use Rattle.simulation.specs.Rules.{ones, ceiling}
 use Rattle.simulation.proofs.Counting.{ones-most}
 
@@ -27,21 +28,38 @@ product f g h = go (decLe f g)
     go (yes l) = half f g l h
     go (no l) = rw (mul-comm f g) (half g f (omega arith) (omega arith))
 
-module _ (B : Board) (F : Formed B) where
-  square : B .n * B .n ≤ 4096
-  square = mul-le-mul {n₂ = 64} {m₂ = 64} (F .few) (F .few)
+pub layers-most : (m : Mode) → layers m ≤ 2
+layers-most Ordinary = omega arith
+layers-most Direct = omega arith
+layers-most Delayed = omega arith
+layers-most Fair = omega arith
 
+-- P, where n and k are within the limits
+pub pairs-most : (B : Board) (m : Mode) → B .n ≤ mostStates → pairs B m ≤ 8192
+pairs-most B m h = mul-le-mul {n₂ = 2} {m₂ = 4096} (layers-most m) (mul-le-mul {n₂ = 64} {m₂ = 64} h h)
+
+pub size-most : (B : Board) (m : Mode) → B .n ≤ mostStates → B .k ≤ mostLetters → positions B m ≤ 139264
+size-most B m h l = le-trans (mul-le-mul {n₂ = 8192} {m₂ = 17} (pairs-most B m h) (omega arith)) (omega arith)
+
+-- T, where n is within the limit
+pub delayed-most : (n f : ℕ) → n ≤ mostStates → n * (n - f) + 1 ≤ 4097
+delayed-most n f h = omega (arith, mul-le-mul {n₁ = n} {m₁ = n - f} {n₂ = 64} {m₂ = 64} h (omega arith))
+
+pub fair-most : (n f : ℕ) → n ≤ mostStates → f ≤ n → f * (n - f) + 1 ≤ 1025
+fair-most n f h l = omega (arith, product f (n - f) (omega arith))
+
+module _ (B : Board) (F : Formed B) where
   pub positions-most : (m : Mode) → positions B m ≤ 139264
-  positions-most m = le-trans (mul-le-mul {n₂ = 8192} {m₂ = 17} (mul-le-mul {n₂ = 2} {m₂ = 4096} (two m) square) (omega (arith, F .few-letters))) (omega arith)
-    where
-      two : (m : Mode) → layers m ≤ 2
-      two Ordinary = omega arith
-      two Direct = omega arith
-      two Delayed = omega arith
-      two Fair = omega arith
+  positions-most m = size-most B m (F .few) (F .few-letters)
 
   pub ceiling-delayed : ceiling B Delayed ≤ 4097
-  ceiling-delayed = omega (arith, mul-le-mul {n₁ = B .n} {m₁ = B .n - ones B} {n₂ = 64} {m₂ = 64} (F .few) (omega (arith, F .few)))
+  ceiling-delayed = delayed-most (B .n) (ones B) (F .few)
 
   pub ceiling-fair : ceiling B Fair ≤ 1025
-  ceiling-fair = omega (arith, product (ones B) (B .n - ones B) (omega (arith, ones-most B, F .few)))
+  ceiling-fair = fair-most (B .n) (ones B) (F .few) (ones-most B)
+
+  pub ceiling-most : (m : Mode) → ceiling B m ≤ 4097
+  ceiling-most Ordinary = omega arith
+  ceiling-most Direct = omega arith
+  ceiling-most Delayed = ceiling-delayed
+  ceiling-most Fair = omega (arith, ceiling-fair)

@@ -31,6 +31,10 @@ jobFault j = firstFault (automatonFault (j .board) (j .start) ∷ modeFault (j .
 abbrev pub lengthFault : Game → (entries : ℕ) → Fault
 lengthFault g entries = fails (not (eqb entries (g .P))) TableLength
 
+-- 1 to 9
+abbrev pub openFault : Job → (entries : ℕ) → Fault
+openFault j entries = firstFault (jobFault j ∷ lengthFault (gameOf j) entries ∷ [])
+
 -- 10: "an entry above T" at "first such entry"
 abbrev pub above : (T : ℕ) → (table : List ℕ) → ℕ → Bool
 above T t v = ltb T (at t v)
@@ -56,7 +60,7 @@ topping j = unless (jobFault j) (valued (gameOf j .T))
 -- ---- the four calls: first the refusals 1 to 9, then what each does in the game
 
 abbrev pub opening : Job → (table : List ℕ) → Effect → Effect
-opening j t e = does (firstFault (jobFault j ∷ lengthFault (gameOf j) (length t) ∷ [])) t e
+opening j t e = does (openFault j (length t)) t e
 
 -- "Clear: fill the table with 0."
 unfoldable pub clearing : Job → (table : List ℕ) → Effect

@@ -7,7 +7,7 @@ ghost use lib.ListN.{length, getD};
 ghost use Rattle.games.specs.Play.{count};
 ghost use Rattle.automaton.specs.Board.{boardOf, Formed};
 ghost use Rattle.automaton.specs.Limits.{mostLetters, mostStates};
-ghost use Rattle.simulation.specs.Position.{pairs, positions};
+ghost use Rattle.simulation.specs.Position.{layers, pairs, positions};
 ghost use Rattle.simulation.specs.Rules.{bit, ceiling};
 ghost use Rattle.table.specs.Arena.{arenaOf, entered, opened};
 ghost use Rattle.table.specs.Job.{jobOf};
@@ -32,18 +32,25 @@ pub enum Opened {
     Shut(Refusal),
 }
 
+// How many values b has.
+fn layers_of(mode: Mode) -> usize
+    ensures { λ r. ⌜ r ≡ layers mode ⌝ }
+{
+    match mode {
+        Mode::Ordinary => 1,
+        Mode::Direct => 1,
+        Mode::Delayed => 2,
+        Mode::Fair => 1,
+    }
+}
+
 // The number of Spoiler's positions.
 pub fn pairs_of(a: Automaton, mode: Mode) -> usize
     requires { ⌜ a .states ≤ mostStates ⌝ }
     ensures { λ r. ⌜ r ≡ pairs (boardOf a [] []) mode ⌝ }
 {
     let states = a.states;
-    match mode {
-        Mode::Ordinary => states * states,
-        Mode::Direct => states * states,
-        Mode::Delayed => 2 * (states * states),
-        Mode::Fair => states * states,
-    }
+    layers_of(mode) * (states * states)
 }
 
 // P, the number of positions.
@@ -77,14 +84,12 @@ pub fn top(a: Automaton, marks: &[u8], mode: Mode) -> u32
     ensures { λ r. ⌜ r ≡ ceiling (boardOf a (now (marks .entry)) []) mode ⌝ }
 {
     let states = a.states;
+    let f = ones(marks);
     match mode {
         Mode::Ordinary => 1,
         Mode::Direct => 1,
-        Mode::Delayed => (states * (states - ones(marks)) + 1) as u32,
-        Mode::Fair => {
-            let f = ones(marks);
-            (f * (states - f) + 1) as u32
-        }
+        Mode::Delayed => (states * (states - f) + 1) as u32,
+        Mode::Fair => (f * (states - f) + 1) as u32,
     }
 }
 
@@ -111,7 +116,7 @@ pub fn enter(a: Automaton, marks: &[u8], moves: &[u8], mode: usize) -> Opened
 }
 
 // The arena for a table of so many entries. Refusals 1 to 9.
-pub fn open(a: Automaton, marks: &[u8], moves: &[u8], mode: usize, entries: usize) -> Opened
+pub fn for_table(a: Automaton, marks: &[u8], moves: &[u8], mode: usize, entries: usize) -> Opened
     ensures { λ r. ⌜ r ≡ opened (jobOf a (now (marks .entry)) (now (moves .entry)) mode) entries ⌝ }
 {
     let entered = enter(a, marks, moves, mode);

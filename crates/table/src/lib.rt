@@ -86,7 +86,7 @@ pub fn clear(a: Automaton, marks: &[u8], moves: &[u8], mode: usize, table: &mut 
     ensures { λ r. ⌜ ofCleared r ≡ clearing (jobOf a (now (marks .entry)) (now (moves .entry)) mode) (now (table .entry)) .answer ⌝ }
     ensures { λ r. ⌜ now (table .exit) ≡ clearing (jobOf a (now (marks .entry)) (now (moves .entry)) mode) (now (table .entry)) .table ⌝ }
 {
-    let opened = arena::open(a, marks, moves, mode, table.len());
+    let opened = arena::for_table(a, marks, moves, mode, table.len());
     match opened {
         Opened::Shut(refusal) => Cleared::Refused(refusal),
         Opened::Open(g) => {
@@ -108,7 +108,7 @@ pub fn lift(
     ensures { λ r. ⌜ ofLifted r ≡ lifting (jobOf a (now (marks .entry)) (now (moves .entry)) mode) (now (table .entry)) position .answer ⌝ }
     ensures { λ r. ⌜ now (table .exit) ≡ lifting (jobOf a (now (marks .entry)) (now (moves .entry)) mode) (now (table .entry)) position .table ⌝ }
 {
-    let opened = arena::open(a, marks, moves, mode, table.len());
+    let opened = arena::for_table(a, marks, moves, mode, table.len());
     match opened {
         Opened::Shut(refusal) => Lifted::Refused(refusal),
         Opened::Open(g) => lift_in(g, marks, moves, table, position),
@@ -141,7 +141,7 @@ fn lift_in(g: Arena, marks: &[u8], moves: &[u8], table: &mut [u32], position: us
 pub fn rest(a: Automaton, marks: &[u8], moves: &[u8], mode: usize, table: &[u32]) -> Rested
     ensures { λ r. ⌜ ofRested r ≡ resting (jobOf a (now (marks .entry)) (now (moves .entry)) mode) (now (table .entry)) ⌝ }
 {
-    let opened = arena::open(a, marks, moves, mode, table.len());
+    let opened = arena::for_table(a, marks, moves, mode, table.len());
     match opened {
         Opened::Shut(refusal) => Rested::Refused(refusal),
         Opened::Open(g) => rest_in(g, marks, moves, table),
@@ -171,7 +171,7 @@ pub fn settle(a: Automaton, marks: &[u8], moves: &[u8], mode: usize, table: &mut
     ensures { λ r. ⌜ ofSettled r ≡ settling (jobOf a (now (marks .entry)) (now (moves .entry)) mode) (now (table .entry)) .answer ⌝ }
     ensures { λ r. ⌜ now (table .exit) ≡ settling (jobOf a (now (marks .entry)) (now (moves .entry)) mode) (now (table .entry)) .table ⌝ }
 {
-    let opened = arena::open(a, marks, moves, mode, table.len());
+    let opened = arena::for_table(a, marks, moves, mode, table.len());
     match opened {
         Opened::Shut(refusal) => Settled::Refused(refusal),
         Opened::Open(g) => {

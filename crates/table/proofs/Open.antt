@@ -1,0 +1,148 @@
+-- What opening an arena tells: which refusal there is, or that there is none and the arena fits the lent bytes.
+use mathlib.Core.Path.{_≡_, refl, sym, ap, _∙_, subst}
+use mathlib.Core.Logic.{_≢_, _↔_, Iff·trans}
+use mathlib.Core.Bool.{Bool, true, false, not, true≢false}
+use mathlib.Core.List.{List, [], _∷_}
+use Prim.Native.Nat.{ℕ, _+_, _*_, _<_}
+use native.Mathlib.Omega.{arith}
+use lib.Dec.{eqb}
+use lib.ListN.{length}
+use borrow.Author.Tests.{eqb-true, eq-eqb, ne-eqb, not-false}
+use Rattle.games.specs.Game.{Game}
+use Rattle.automaton.specs.declared.Automaton.{Automaton}
+use Rattle.automaton.specs.declared.Mode.{Mode}
+use Rattle.automaton.specs.declared.Mode.the-variants.{Ordinary, Direct, Delayed, Fair}
+use Rattle.automaton.specs.declared.Named.{Named}
+use Rattle.automaton.specs.declared.Named.the-variants.{Known, Unknown}
+use Rattle.automaton.specs.declared.Refusal.{Refusal}
+use Rattle.automaton.specs.declared.Refusal.the-variants.{ModeNumber, TableLength}
+use Rattle.automaton.specs.Answer.{refused, Fault, none, fault, fails, firstFault}
+use Rattle.automaton.specs.Board.{Board, boardOf, Formed}
+use Rattle.automaton.specs.Check.{automatonFault}
+use Rattle.automaton.specs.Limits.{nameOf}
+use Rattle.automaton.proofs.Fault.{Line, fails-line, _then_, end, table-line}
+use Rattle.automaton.proofs.Sound.{automaton-line}
+use Rattle.simulation.specs.Position.{pairs, positions}
+use Rattle.simulation.specs.Rules.{ceiling}
+use Rattle.table.specs.declared.arena.Arena.{Arena}
+use Rattle.table.specs.declared.arena.Opened.{Opened}
+use Rattle.table.specs.declared.arena.Opened.the-variants.{Open, Shut}
+use Rattle.table.specs.Job.{Job, isUnknown, modeIn, modeOf, gameOf, Effect}
+use Rattle.table.specs.Calls.{modeFault, jobFault, lengthFault, openFault, opening}
+use Rattle.table.specs.Arena.{arenaOf, boardIn, gameIn, Ready, openedBy, entered, opened}
+
+-- ---- reading an opened arena back
+
+isOpen : Opened → ℕ
+isOpen (Open g) = 1
+isOpen (Shut r) = 0
+
+open-not-shut : {g : Arena} {r : Refusal} → Open g ≡ Shut r → ⊥
+unfolding isOpen
+open-not-shut e = let z : _≡_ {A = ℕ} 1 0 = ap isOpen e in omega arith
+
+arenaIn : Arena → Opened → Arena
+arenaIn d (Open g) = g
+arenaIn d (Shut r) = d
+
+refusalIn : Refusal → Opened → Refusal
+refusalIn d (Open g) = d
+refusalIn d (Shut r) = r
+
+by-open : (f : Fault) (h g : Arena) → openedBy f h ≡ Open g → (f ≡ none) × (h ≡ g)
+unfolding arenaIn
+by-open none h g e = (refl, ap (arenaIn h) e)
+by-open (fault r) h g e = absurd (open-not-shut (sym e))
+
+by-shut : (f : Fault) (h : Arena) (r : Refusal) → openedBy f h ≡ Shut r → f ≡ fault r
+unfolding refusalIn
+by-shut none h r e = absurd (open-not-shut e)
+by-shut (fault s) h r e = ap fault (ap (refusalIn s) e)
+
+-- ---- refusals 1 to 8
+
+known : (n : Named) → (isUnknown n ≡ false) ↔ (n ≡ Known (modeIn n))
+known (Known m) = (λ e. refl, λ e. refl)
+known Unknown = (λ e. absurd (true≢false e), λ e. ap isUnknown e)
+
+pub job-line : (j : Job) → Line (jobFault j) (Formed (j .board) × (j .start < j .board .n) × (nameOf (j .mode) ≡ Known (modeOf (j .mode))))
+job-line j =
+    Iff·trans (table-line (automaton-line (j .board) (j .start) then fails-line (isUnknown (nameOf (j .mode))) _ ModeNumber (known (nameOf (j .mode))) then end))
+    (λ h. (h .0 .0, h .0 .1, h .1 .0), λ h. ((h .0, h .1), (h .2, tt)))
+
+-- T does not depend on the moves
+pub ceiling-moves : (a : Automaton) (marks ms ns : List ℕ) (m : Mode) → ceiling (boardOf a marks ms) m ≡ ceiling (boardOf a marks ns) m
+ceiling-moves a marks ms ns Ordinary = refl
+ceiling-moves a marks ms ns Direct = refl
+ceiling-moves a marks ms ns Delayed = refl
+ceiling-moves a marks ms ns Fair = refl
+
+module _ (j : Job) where
+  pub entered-refused : (r : Refusal) → automatonFault (j .board) (j .start) ≡ fault r → Shut r ≡ entered j
+  unfolding entered
+  entered-refused r e = simp e
+
+  pub entered-unknown : automatonFault (j .board) (j .start) ≡ none → nameOf (j .mode) ≡ Unknown → Shut ModeNumber ≡ entered j
+  unfolding entered
+  entered-unknown e d = simp (e, d)
+
+  pub entered-known : (m : Mode) → automatonFault (j .board) (j .start) ≡ none → nameOf (j .mode) ≡ Known m → Open (arenaOf (j .board) m) ≡ entered j
+  unfolding entered
+  entered-known m e d = simp (e, d)
+
+  pub enter-shut : (r : Refusal) → entered j ≡ Shut r → jobFault j ≡ fault r
+  unfolding entered
+  enter-shut r e = by-shut (jobFault j) _ r e
+
+  pub enter-open : (g : Arena) → entered j ≡ Open g → (jobFault j ≡ none) × (arenaOf (j .board) (modeOf (j .mode)) ≡ g)
+  unfolding entered
+  enter-open g e = by-open (jobFault j) _ g e
+
+-- ---- refusals 1 to 9
+
+size-line : (g : Game) (entries : ℕ) → Line (lengthFault g entries) (entries ≡ g .P)
+size-line g entries = fails-line _ _ TableLength (λ e. eqb-true entries (g .P) (not-false (eqb entries (g .P)) e), λ e. simp (eq-eqb entries (g .P) e))
+
+module _ (j : Job) (entries : ℕ) where
+  pub opened-shut : (r : Refusal) → entered j ≡ Shut r → Shut r ≡ opened j entries
+  unfolding opened
+  opened-shut r e = simp (enter-shut j r e)
+
+  pub opened-length : jobFault j ≡ none → entries ≢ gameOf j .P → Shut TableLength ≡ opened j entries
+  unfolding opened
+  opened-length e n = simp (e, ne-eqb entries (gameOf j .P) n)
+
+  pub opened-open : (g : Arena) → entered j ≡ Open g → entries ≡ gameOf j .P → Open g ≡ opened j entries
+  unfolding opened
+  opened-open g e n = simp (enter-open j g e .0, eq-eqb entries (gameOf j .P) n, enter-open j g e .1)
+
+-- an effect is its answer and its table
+pub both : {d e : Effect} → d ≡ e → (d .answer ≡ e .answer) × (d .table ≡ e .table)
+both p = (ap (λ (x : Effect). x .answer) p, ap (λ (x : Effect). x .table) p)
+
+-- ---- what a call does that opened an arena, or did not
+
+module _ (j : Job) (t : List ℕ) where
+  pub shut-effect : (r : Refusal) → opened j (length t) ≡ Shut r → (e : Effect) → opening j t e ≡ record { answer = refused r; table = t }
+  unfolding opened
+  shut-effect r o e = simp (by-shut (openFault j (length t)) _ r o)
+
+  module _ (g : Arena) (o : opened j (length t) ≡ Open g) where
+    open-is : (openFault j (length t) ≡ none) × (arenaOf (j .board) (modeOf (j .mode)) ≡ g)
+    unfolding opened
+    open-is = by-open (openFault j (length t)) _ g o
+
+    pub open-effect : (e : Effect) → opening j t e ≡ e
+    open-effect e = simp (open-is .0)
+
+    pub open-game : gameOf j ≡ gameIn g (j .board .marks) (j .board .moves)
+    open-game = ap (λ h. gameIn h (j .board .marks) (j .board .moves)) (open-is .1)
+
+    pub open-ready : Ready g (j .board .marks) (j .board .moves) t
+    open-ready = subst (λ h. Ready h (j .board .marks) (j .board .moves) t) (open-is .1) ready
+      where
+        holds : (Formed (j .board) × (j .start < j .board .n) × (nameOf (j .mode) ≡ Known (modeOf (j .mode)))) × ((length t ≡ gameOf j .P) × Unit {0})
+        holds = table-line (job-line j then size-line (gameOf j) (length t) then end) .0 (open-is .0)
+
+        ready : Ready (arenaOf (j .board) (modeOf (j .mode))) (j .board .marks) (j .board .moves) t
+        ready = record { formed = holds .0 .0; paired = refl; topped = refl; entries = holds .1 .0 }

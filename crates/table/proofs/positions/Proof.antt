@@ -1,0 +1,95 @@
+-- `table::positions` meets its contract: what `limits` and `named` answered decides the refusal.
+use mathlib.Core.Path.{_≡_, refl, sym, ap, _∙_}
+use mathlib.Core.List.{List, [], _∷_}
+use borrow.Author.Needs.{needs}
+use Rattle.automaton.specs.declared.Checked.{Checked}
+use Rattle.automaton.specs.Answer.{Answer, accepted, valued, Fault, none, firstFault, unless}
+use Rattle.automaton.specs.Board.{boardOf}
+use Rattle.automaton.specs.Check.{statesFault, lettersFault, limited, answerOf}
+use Rattle.automaton.proofs.Fault.{faults-passed, faults-stopped}
+use Rattle.automaton.proofs.One.{unless-accepted, unless-refused}
+use Rattle.automaton.proofs.Sound.{limits-line}
+use Rattle.simulation.specs.Position.{positions}
+use Rattle.table.specs.Calls.{modeFault}
+use Rattle.table.specs.Job.{modeOf}
+use Rattle.table.proofs.positions.Statement.{statement}
+use Rattle.table.proofs.positions.Tie as tie
+
+-- the lines of refusals 1 and 2, and the line after them
+abbrev limit-lines : tie.Start → List Fault
+limit-lines c = statesFault (c .args .a .states) ∷ lettersFault (c .args .a .letters) ∷ []
+
+abbrev mode-line : tie.Start → List Fault
+mode-line c = modeFault (c .args .mode) ∷ []
+
+-- the answer where no line finds a fault
+abbrev sized : tie.Start → Answer
+sized c = valued (positions (boardOf (c .args .a) [] []) (modeOf (c .args .mode)))
+
+-- what `limits` answered, where that was a given result
+limits-is : (c : tie.After-limits) {r : Checked} → c .limits .result ≡ r → answerOf r ≡ unless (firstFault (limit-lines (c .before))) accepted
+unfolding limited
+limits-is c e = sym (ap answerOf e) ∙ c .limits .ensures
+
+within : (c : tie.After-enum-told) → firstFault (limit-lines (c .before .before .before)) ≡ none
+within c = unless-accepted _ accepted refl (limits-is (c .before .before) (c .enum-told .given .1))
+
+limits-requires : tie.Need-limits-requires
+limits-requires c κs = search needs
+
+enum-known-limited : tie.Need-enum-known-limited
+enum-known-limited c = search needs
+
+returns : tie.Need-returns
+returns c =
+    let at = c .before .before .before in
+    let r = c .before .limited .given .0 .0 in
+    let e = unless-refused _ accepted r refl (limits-is at (c .before .limited .given .1)) in
+    sym (ap (λ f. unless f (sized (at .before))) (faults-stopped (limit-lines (at .before)) (mode-line (at .before)) r e))
+
+enum-told : tie.Need-enum-told
+enum-told c = search needs
+
+named-requires : tie.Need-named-requires
+named-requires c κs = search needs
+
+enum-told-2 : tie.Need-enum-told-2
+enum-told-2 c = search needs
+
+enum-known-named : tie.Need-enum-known-named
+enum-known-named c = search needs
+
+size-requires : tie.Need-size-requires
+size-requires c κs =
+    let told = c .before .before .before .before in
+    let s = told .before .before .before in
+    let l = limits-line (s .args .a .states) (s .args .a .letters) .0 (within told) in
+    (l .0 .1, l .1 .1)
+
+returns-2 : tie.Need-returns-2
+returns-2 c =
+    let told = c .before .before .before in
+    let s = told .before .before .before in
+    sym (ap (λ f. unless f (sized s)) (faults-passed (limit-lines s) (mode-line s) (within told)) ∙ simp (sym (c .before .before .named .ensures), c .enum-told2 .given .1))
+
+returns-3 : tie.Need-returns-3
+returns-3 c =
+    let known = c .before .before in
+    let told = known .before .before .before in
+    let s = told .before .before .before in
+    sym (ap (λ f. unless f (sized s)) (faults-passed (limit-lines s) (mode-line s) (within told)) ∙ simp (sym (known .before .before .named .ensures), known .named2 .given .1, c .size .ensures))
+
+pub positions-spec : {M : Type 1} → statement M
+positions-spec =
+    tie.close
+    (tie.spec
+    limits-requires
+    enum-known-limited
+    returns
+    enum-told
+    named-requires
+    enum-told-2
+    enum-known-named
+    size-requires
+    returns-2
+    returns-3)
