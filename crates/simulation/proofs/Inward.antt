@@ -14,14 +14,14 @@ use Rattle.simulation.specs.Rules.{pended, eased, challenge, reply, step
 use Rattle.simulation.proofs.Moves.{targets-lt, arrows-lt}
 use Rattle.simulation.proofs.Position.{number-lt, position-fits}
 
-pended-lt : (m : Mode) (x : Bool) (b : ℕ) → b < layers m → pended m x b < layers m
+pub pended-lt : (m : Mode) (x : Bool) (b : ℕ) → b < layers m → pended m x b < layers m
 pended-lt Ordinary x b h = h
 pended-lt Direct x b h = h
 pended-lt Delayed true b h = omega arith
 pended-lt Delayed false b h = omega arith
 pended-lt Fair x b h = h
 
-eased-lt : (m : Mode) (x : Bool) (b : ℕ) → b < layers m → eased m x b < layers m
+pub eased-lt : (m : Mode) (x : Bool) (b : ℕ) → b < layers m → eased m x b < layers m
 eased-lt Ordinary x b h = h
 eased-lt Direct x b h = h
 eased-lt Delayed true b h = omega arith

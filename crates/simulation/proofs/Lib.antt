@@ -1,6 +1,7 @@
 pub mod Cases
 pub mod Moves
 pub mod Rising
+pub mod Ranges
 pub mod Position
 pub mod Inward
 pub mod Counting

@@ -25,11 +25,11 @@ move-past x y z ms R i r = rw (past 1, past 2, past₀) at r
     past₀ = omega arith
 
 -- what f makes of move i
-abbrev made : {X : Type 0} → (f : ℕ → ℕ → ℕ → List X) → (moves : List ℕ) → ℕ → List X
+abbrev pub made : {X : Type 0} → (f : ℕ → ℕ → ℕ → List X) → (moves : List ℕ) → ℕ → List X
 made f ms i = f (from ms i) (letter ms i) (to ms i)
 
 module _ {X : Type 0} (f : ℕ → ℕ → ℕ → List X) where
-  made-suc : (x y z : ℕ) (ms : List ℕ) (i : ℕ) → made f (x ∷ y ∷ z ∷ ms) (suc i) ≡ made f ms i
+  pub made-suc : (x y z : ℕ) (ms : List ℕ) (i : ℕ) → made f (x ∷ y ∷ z ∷ ms) (suc i) ≡ made f ms i
   made-suc x y z ms i = move-past x y z ms (λ u v w. made f (x ∷ y ∷ z ∷ ms) (suc i) ≡ f u v w) i refl
 
   -- what is gathered is made of some move, and what is made of a move is gathered

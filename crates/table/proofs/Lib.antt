@@ -1,2 +1,4 @@
 pub mod Open
 pub mod Parts
+pub mod Keys
+pub mod Ahead
