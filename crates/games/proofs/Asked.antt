@@ -90,7 +90,7 @@ asked-mono g f h le v = ask-mono (g .kind v) (g .T) f h le (g .next v)
 
 -- ---- at most T
 
-lowest-cap : (T : ℕ) (f : ℕ → ℕ) (ws : List ℕ) → lowest T f ws ≤ T
+pub lowest-cap : (T : ℕ) (f : ℕ → ℕ) (ws : List ℕ) → lowest T f ws ≤ T
 unfolding lowest
 lowest-cap T f [] = omega arith
 lowest-cap T f (v ∷ vs) = omega (arith, lowest-cap T f vs)

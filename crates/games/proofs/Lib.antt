@@ -3,6 +3,7 @@ pub mod Asked
 pub mod Lift
 pub mod Raises
 pub mod Settle
+pub mod Sweeping
 pub mod Replies
 pub mod Complete
 pub mod Verdict

@@ -2,3 +2,5 @@ pub mod Open
 pub mod Parts
 pub mod Keys
 pub mod Ahead
+pub mod Bounds
+pub mod Stretch
