@@ -146,3 +146,7 @@ module _ (j : Job) (t : List ℕ) where
 
         ready : Ready (arenaOf (j .board) (modeOf (j .mode))) (j .board .marks) (j .board .moves) t
         ready = record { formed = holds .0 .0; paired = refl; topped = refl; entries = holds .1 .0 }
+
+-- of the table, only the length matters to the arena
+pub ready-again : (g : Arena) (marks moves t u : List ℕ) → Ready g marks moves t → length u ≡ length t → Ready g marks moves u
+ready-again g marks moves t u R e = record { formed = R .formed; paired = R .paired; topped = R .topped; entries = e ∙ R .entries }

@@ -1,52 +1,72 @@
--- `table::first_restless` meets its contract.
+-- `table::work::first_restless` meets its contract. The invariant: the first restless position from v on is the first of all.
+-- The measure is the number of positions left.
 use borrow.Author.Needs.{needs}
+use mathlib.Core.Path.{_≡_, sym, _∙_}
+use Prim.Native.Nat.{ℕ, _-_, _≤_, _<_}
+use native.Mathlib.Nat.{sub-zero}
+use native.Mathlib.Omega.{arith}
+use borrow.Author.Tests.{lt-ltb, le-ltb}
+use lib.ListN.{length}
+use Rattle.games.specs.Game.{Game, asked, at}
+use Rattle.automaton.specs.First.{first}
+use Rattle.automaton.proofs.First.{first-here, first-passed, first-end}
+use Rattle.table.specs.Arena.{gameIn}
+use Rattle.table.specs.Calls.{restless}
 use Rattle.table.proofs.work.first_restless.Statement.{statement}
 use Rattle.table.proofs.work.first_restless.Tie as tie
-use Rattle.table.proofs.work.first_restless.Reads as reads
-use Rattle.table.proofs.work.first_restless.Lts as lts
-use Rattle.table.proofs.asked.asked.Reads as asked-reads
 
 abbrev Inv-loop : tie.InvT-loop
-Inv-loop g marks moves begins table v₀ v = ?
+Inv-loop g marks moves begins table v₀ v =
+    (v ≤ length table) × (first (restless (gameIn g marks moves) table) v (length table - v) ≡ first (restless (gameIn g marks moves) table) 0 (length table))
 
 abbrev μ-loop : tie.MeasureT-loop
-μ-loop g marks moves begins table v₀ v = ?
+μ-loop g marks moves begins table v₀ v = length table - v
 
--- src/work.rt:63:5
+abbrev begun : tie.At-loop Inv-loop μ-loop → tie.Start Inv-loop μ-loop
+begun l = l .before .before .before .before .before
+
+abbrev game : tie.At-loop Inv-loop μ-loop → Game
+game l = gameIn (begun l .args .g) (begun l .args .marks .now) (begun l .args .moves .now)
+
+-- the entry that the loop looks at, and what its position asks for
+abbrev entry : tie.At-loop Inv-loop μ-loop → ℕ
+entry l = at (begun l .args .table .now) (l .loop .v)
+
+abbrev wanted : tie.At-loop Inv-loop μ-loop → ℕ
+wanted l = asked (game l) (at (begun l .args .table .now)) (l .loop .v)
+
 loop-holds : tie.Need-loop-holds Inv-loop μ-loop
-loop-holds c = search needs
+loop-holds c = (search needs, simp sub-zero)
 
--- src/work.rt:64:12
 mul-if1 : tie.Need-mul-if1 Inv-loop μ-loop
 mul-if1 c = search needs
 
--- src/work.rt:64:12
 shared-slice-read-if1 : tie.Need-shared-slice-read-if1 Inv-loop μ-loop
 shared-slice-read-if1 c = search needs
 
--- src/work.rt:64:23
 asked-requires : tie.Need-asked-requires Inv-loop μ-loop
-asked-requires c κs = search needs
+asked-requires c κs = let s = begun (c .before .before) in (s .pre .0, (s .pre .1, omega arith))
 
--- src/work.rt:65:13
 returns : tie.Need-returns Inv-loop μ-loop
-returns c = search needs
+returns c =
+    let l = c .before .before .before .before in
+    let more : entry l < wanted l = omega (arith, c .if1 .taken, c .before .asked .ensures) in
+    sym (first-here _ _ _ (lt-ltb (entry l) (wanted l) more)) ∙ l .loop .inv .1
 
--- src/work.rt:67:9
 add-v : tie.Need-add-v Inv-loop μ-loop
 add-v c = search needs
 
--- src/work.rt:63:5
 loop-less : tie.Need-loop-less Inv-loop μ-loop
 loop-less c = search needs
 
--- src/work.rt:63:5
 loop-again : tie.Need-loop-again Inv-loop μ-loop
-loop-again c = search needs
+loop-again c =
+    let l = c .before .before .before .before in
+    let rests : wanted l ≤ entry l = omega (arith, c .if1 .left, c .before .asked .ensures) in
+    (search needs, first-passed _ _ _ (c .before .before .before .loop-test .taken) (le-ltb (entry l) (wanted l) rests) ∙ l .loop .inv .1)
 
--- src/work.rt:51:1
 returns-2 : tie.Need-returns-2 Inv-loop μ-loop
-returns-2 c = search needs
+returns-2 c = sym (first-end _ _ _ (c .loop-test .left)) ∙ c .before .loop .inv .1
 
 pub first-restless-spec : {M : Type 1} → statement M
 first-restless-spec =
