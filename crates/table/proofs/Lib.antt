@@ -4,3 +4,4 @@ pub mod Keys
 pub mod Ahead
 pub mod Bounds
 pub mod Stretch
+pub mod Effects

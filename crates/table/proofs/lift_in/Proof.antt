@@ -1,64 +1,100 @@
--- `table::lift_in` meets its contract.
+-- `table::lift_in` meets its contract: refusals 10 and 11 are decided before the lift writes.
+use mathlib.Core.Path.{_≡_, sym, ap, _∙_}
+use mathlib.Core.List.{List}
+use Prim.Native.Nat.{ℕ, _≤_, _<_}
+use native.Mathlib.Omega.{arith}
 use borrow.Author.Needs.{needs}
+use lib.ListN.{length}
+use Rattle.games.specs.Game.{Game}
+use Rattle.automaton.specs.Answer.{valued}
+use Rattle.automaton.specs.First.{first}
+use Rattle.table.specs.Arena.{boardIn, gameIn}
+use Rattle.table.specs.Calls.{above, lifted}
+use Rattle.table.proofs.Bounds.{row-most}
+use Rattle.table.proofs.Effects.{lifted-above, lifted-out, lifted-in}
+use Rattle.table.proofs.Keys.{keys-ascend}
+use Rattle.table.proofs.Open.{both}
 use Rattle.table.proofs.lift_in.Statement.{statement}
 use Rattle.table.proofs.lift_in.Tie as tie
-use Rattle.table.proofs.lift_in.Reads as reads
-use Rattle.table.proofs.lift_in.Lts as lts
-use Rattle.table.proofs.index.fill.Reads as fill-reads
-use Rattle.table.proofs.work.first_above.Reads as first-above-reads
-use Rattle.table.proofs.work.lift.Reads as lift-reads
 
--- src/lib.rt:124:9
+abbrev begun : tie.After-first-above → tie.Start
+begun c = c .before .before .before .before .before
+
+abbrev game : tie.After-first-above → Game
+game c = gameIn (begun c .args .g) (begun c .args .marks .now) (begun c .args .moves .now)
+
+abbrev table : tie.After-first-above → List ℕ
+table c = begun c .args .table .now
+
+-- the place after the search, from the place after the lift
+abbrev tested : tie.After-lift → tie.After-first-above
+tested c = c .before .before .before .before .before .before .before .before
+
+found : (c : tie.After-first-above) → c .first-above .result ≡ first (above (game c .T) (table c)) 0 (length (table c))
+found c = c .first-above .ensures ∙ ap (λ (T : ℕ). first (above T (table c)) 0 (length (table c))) (begun c .pre .topped)
+
 first-above-requires : tie.Need-first-above-requires
 first-above-requires c κs = search needs
 
--- src/lib.rt:126:9
 same-length : tie.Need-same-length
 same-length c = search needs
 
--- src/lib.rt:126:9
 returns : tie.Need-returns
-returns c = search needs
+returns c =
+    let at = c .before in
+    both (sym (lifted-above (game at) (table at) (at .first-above .result) (found at) (begun at .args .position) (omega (arith, c .if1 .taken))))
 
--- src/lib.rt:129:9
 same-length-2 : tie.Need-same-length-2
 same-length-2 c = search needs
 
--- src/lib.rt:129:9
 returns-2 : tie.Need-returns-2
-returns-2 c = search needs
+returns-2 c =
+    let at = c .before .before in
+    both (sym (lifted-out (game at) (table at) (at .first-above .result) (found at) (begun at .args .position) (omega (arith, c .before .if1 .left)) (omega (arith, c .if2 .taken, begun at .pre .entries))))
 
--- src/lib.rt:132:45
 slice-aggregate-fill : tie.Need-slice-aggregate-fill
 slice-aggregate-fill c = search needs
 
--- src/lib.rt:132:5
 fill-requires : tie.Need-fill-requires
-fill-requires c κs = search needs
+fill-requires c κs =
+    let s = begun (c .before .before .before) in
+    let F = s .pre .formed in
+    ((F .few, F .few-letters), (omega (arith, row-most (s .args .g .states) (s .args .g .letters) (F .few) (F .few-letters) (s .args .g .states) (omega arith)), keys-ascend (boardIn (s .args .g) (s .args .marks .now) (s .args .moves .now)) F))
 
--- src/lib.rt:133:44
 slice-aggregate-lift : tie.Need-slice-aggregate-lift
 slice-aggregate-lift c = search needs
 
--- src/lib.rt:133:9
 lift-requires : tie.Need-lift-requires
-lift-requires c κs = search needs
+lift-requires c κs =
+    let filled = c .before .before .before in
+    let inside = filled .before .before in
+    (begun (inside .before .before) .pre, (filled .fill .ensures, omega (arith, inside .if2 .left)))
 
--- src/lib.rt:135:9
+-- what the lift did, from the place after it
+done : (c : tie.After-lift) → lifted (game (tested c)) (table (tested c)) (begun (tested c) .args .position)
+    ≡ record { answer = valued (c .lift .result); table = c .lift .last .1 .1 .1 .1 .0 }
+done c =
+    let inside = c .before .before .before .before .before .before in
+    let at = tested c in
+    let e = lifted-in (game at) (table at) (at .first-above .result) (found at) (begun at .args .position) (omega (arith, inside .before .if1 .left)) (omega (arith, inside .if2 .left, begun at .pre .entries)) in
+    e ∙ (λ i. record { answer = valued (sym (c .lift .ensures .0) i); table = sym (c .lift .ensures .1) i })
+
 same-length-3 : tie.Need-same-length-3
 same-length-3 c = search needs
 
--- src/lib.rt:135:9
 returns-3 : tie.Need-returns-3
-returns-3 c = search needs
+returns-3 c =
+    let at = c .before .before .before in
+    both (ap (λ (n : ℕ). record { answer = valued n; table = at .lift .last .1 .1 .1 .1 .0 }) (sym (c .if3 .taken)) ∙ sym (done at))
 
--- src/lib.rt:119:1
 same-length-4 : tie.Need-same-length-4
 same-length-4 c = search needs
 
--- src/lib.rt:119:1
 returns-4 : tie.Need-returns-4
-returns-4 c = search needs
+returns-4 c =
+    let at = c .before .before .before in
+    let none : at .lift .result ≡ 0 = omega (arith, at .lift .ensures .0, c .if3 .left) in
+    both (ap (λ (n : ℕ). record { answer = valued n; table = at .lift .last .1 .1 .1 .1 .0 }) (sym none) ∙ sym (done at))
 
 pub lift-in-spec : {M : Type 1} → statement M
 lift-in-spec =
