@@ -1,0 +1,78 @@
+-- `table::lift` meets its contract: where an arena was opened, the answer and the table are those of the lift in it.
+use mathlib.Core.Path.{_≡_, sym, ap, _∙_}
+use mathlib.Core.List.{List}
+use Prim.Native.Nat.{ℕ}
+use borrow.Author.Needs.{needs}
+use lib.ListN.{length}
+use Rattle.games.specs.Game.{Game}
+use Rattle.table.specs.declared.arena.Arena.{Arena}
+use Rattle.table.specs.declared.arena.Opened.the-variants.{Open}
+use Rattle.table.specs.Job.{Job, jobOf, gameOf, Effect}
+use Rattle.table.specs.Arena.{gameIn, opened, Ready}
+use Rattle.table.specs.Calls.{lifted, lifting}
+use Rattle.table.proofs.Open.{both, shut-effect, open-effect, open-ready, open-game}
+use Rattle.table.proofs.lift.Statement.{statement}
+use Rattle.table.proofs.lift.Tie as tie
+
+abbrev begun : tie.After-for-table → tie.Start
+begun c = c .before .before .before .before
+
+abbrev job : tie.After-for-table → Job
+job c = let s = begun c in jobOf (s .args .a) (s .args .marks .now) (s .args .moves .now) (s .args .mode)
+
+abbrev table : tie.After-for-table → List ℕ
+table c = begun c .args .table .now
+
+-- the arena that was opened
+abbrev arena : tie.After-opened2 → Arena
+arena c = c .opened2 .given .0 .0
+
+is-open : (c : tie.After-opened2) → opened (job (c .before .before)) (length (table (c .before .before))) ≡ Open (arena c)
+is-open c = sym (c .before .before .for-table .ensures) ∙ c .opened2 .given .1
+
+ready : (c : tie.After-opened2) → let s = begun (c .before .before) in Ready (arena c) (s .args .marks .now) (s .args .moves .now) (s .args .table .now)
+ready c = open-ready (job (c .before .before)) (table (c .before .before)) (arena c) (is-open c)
+
+for-table-requires : tie.Need-for-table-requires
+for-table-requires c κs = search needs
+
+enum-known-opened : tie.Need-enum-known-opened
+enum-known-opened c = search needs
+
+enum-known-opened-2 : tie.Need-enum-known-opened-2
+enum-known-opened-2 c = search needs
+
+lift-in-requires : tie.Need-lift-in-requires
+lift-in-requires c κs = ready (c .before .before)
+
+returns : tie.Need-returns
+unfolding lifting
+returns c =
+    let at = c .before .before .before in
+    both (sym (shut-effect (job at) (table at) (c .before .opened .given .0 .0) (sym (at .for-table .ensures) ∙ c .before .opened .given .1) (lifted (gameOf (job at)) (table at) (begun at .args .position))))
+
+same-length : tie.Need-same-length
+same-length c = search needs
+
+returns-2 : tie.Need-returns-2
+unfolding lifting
+returns-2 c =
+    let done = c .before .before in
+    let o = done .before .before .before in
+    let j = job (o .before .before) in
+    let t = table (o .before .before) in
+    let v = begun (o .before .before) .args .position in
+    let e = both (ap (λ (g : Game). lifted g t v) (sym (open-game j t (arena o) (is-open o))) ∙ sym (open-effect j t (arena o) (is-open o) (lifted (gameOf j) t v))) in
+    (done .lift-in .ensures .0 ∙ e .0, done .lift-in .ensures .1 ∙ e .1)
+
+pub lift-spec : {M : Type 1} → statement M
+lift-spec =
+    tie.close
+    (tie.spec
+    for-table-requires
+    enum-known-opened
+    enum-known-opened-2
+    lift-in-requires
+    returns
+    same-length
+    returns-2)
