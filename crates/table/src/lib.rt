@@ -9,7 +9,7 @@ mod work; // work.rt: filling, lifting and sweeping a table
 
 ghost use mathlib.Core.Path.{_≡_};
 ghost use lib.ListN.{length};
-ghost use Rattle.games.specs.Game.{at};
+ghost use Rattle.games.specs.Settle.{settle};
 ghost use Rattle.table.specs.Answers.{ofCleared, ofCounted, ofLifted, ofRested, ofSettled};
 ghost use Rattle.table.specs.Arena.{gameIn, Ready};
 ghost use Rattle.table.specs.Calls.{clearing, lifted, lifting, rested, resting, settling, sizing, topping};
@@ -174,11 +174,18 @@ pub fn settle(a: Automaton, marks: &[u8], moves: &[u8], mode: usize, table: &mut
     let opened = arena::for_table(a, marks, moves, mode, table.len());
     match opened {
         Opened::Shut(refusal) => Settled::Refused(refusal),
-        Opened::Open(g) => {
-            let mut begins = [0usize; index::KEYS];
-            index::fill(g.states, g.letters, moves, &mut begins[..]);
-            work::clear(table, g.pairs);
-            Settled::Raised(work::sweeps(g, marks, moves, &begins[..], table))
-        }
+        Opened::Open(g) => Settled::Raised(settle_in(g, marks, moves, table)),
     }
+}
+
+// The settle in an arena: clear, then the sweeps.
+fn settle_in(g: Arena, marks: &[u8], moves: &[u8], table: &mut [u32]) -> usize
+    requires { ⌜ Ready g (now marks) (now moves) (now table) ⌝ }
+    ensures { λ r. ⌜ r ≡ settle (gameIn g (now (marks .entry)) (now (moves .entry))) .raised ⌝ }
+    ensures { λ r. ⌜ now (table .exit) ≡ settle (gameIn g (now (marks .entry)) (now (moves .entry))) .table ⌝ }
+{
+    let mut begins = [0usize; index::KEYS];
+    index::fill(g.states, g.letters, moves, &mut begins[..]);
+    work::clear(table, g.pairs);
+    work::sweeps(g, marks, moves, &begins[..], table)
 }
