@@ -31,7 +31,7 @@ refusal-numbered PositionNumber = omega arith
 abbrev pub Line : Fault → Type 0 → Type 0
 Line f P = (f ≡ none) ↔ P
 
-found : {r : Refusal} → fault r ≡ none → ⊥
+pub found : {r : Refusal} → fault r ≡ none → ⊥
 found e = let z : _≡_ {A = ℕ} 0 1 = cc in omega arith
 
 pub always-line : (r : Refusal) → Line (fault r) ⊥

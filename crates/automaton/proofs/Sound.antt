@@ -12,7 +12,6 @@ use Rattle.automaton.specs.Answer.{none, fault, fails, failsAt, firstFau
 use Rattle.automaton.specs.Board.{Board, Formed, from, letter, to, above, Above, outside, unsorted}
 use Rattle.automaton.specs.Check.{high, statesFault, lettersFault, automatonFault, checked}
 use Rattle.automaton.specs.Limits.{mostStates, mostLetters}
-use Rattle.automaton.specs.declared.Refusal.{Refusal}
 use Rattle.automaton.specs.declared.Refusal.the-variants.{States, Letters, Marks, Start, Bytes, Outside, Unsorted}
 use Rattle.automaton.proofs.Fault.{Line, always-line, fails-line, failsAt-line, _then_, end, table-line, unless-number}
 
@@ -55,8 +54,11 @@ above-is x y z x′ y′ z′ = lexical x x′ _ _ (lexical y y′ _ _ (ltb-true
 
 -- ---- the lines of the table
 
-range-line : (n m : ℕ) (r : Refusal) → Line (fails (ltb n 1 || ltb m n) r) ((0 < n) × (n ≤ m))
-range-line n m r = fails-line _ _ r (range n m)
+pub states-line : (n : ℕ) → Line (statesFault n) ((0 < n) × (n ≤ mostStates))
+states-line n = fails-line _ _ States (range n mostStates)
+
+pub letters-line : (k : ℕ) → Line (lettersFault k) ((0 < k) × (k ≤ mostLetters))
+letters-line k = fails-line _ _ Letters (range k mostLetters)
 
 start-line : (n start : ℕ) → Line (fails (leb n start) Start) (start < n)
 start-line n start = fails-line _ _ Start (leb-false n start, lt-leb n start)
@@ -104,13 +106,13 @@ module _ (ms : List ℕ) where
 -- ---- all of them
 
 pub limits-line : (n k : ℕ) → Line (firstFault (statesFault n ∷ lettersFault k ∷ [])) (((0 < n) × (n ≤ mostStates)) × ((0 < k) × (k ≤ mostLetters)))
-limits-line n k = Iff·trans (table-line (range-line n mostStates States then range-line k mostLetters Letters then end)) (λ a. (a .0, a .1 .0), λ h. (h .0, (h .1, tt)))
+limits-line n k = Iff·trans (table-line (states-line n then letters-line k then end)) (λ a. (a .0, a .1 .0), λ h. (h .0, (h .1, tt)))
 
 pub automaton-line : (B : Board) (start : ℕ) → Line (automatonFault B start) (Formed B × (start < B .n))
 automaton-line B start =
     let table =
-    range-line (B .n) mostStates States then
-    range-line (B .k) mostLetters Letters then
+    states-line (B .n) then
+    letters-line (B .k) then
     marks-line (B .n) (B .marks) then
     start-line (B .n) start then
     bytes-line (length (B .moves)) then

@@ -5,3 +5,6 @@ pub mod Ahead
 pub mod Bounds
 pub mod Stretch
 pub mod Effects
+pub mod Accepted
+pub mod One
+pub mod AtRest

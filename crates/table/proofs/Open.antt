@@ -28,7 +28,7 @@ use Rattle.table.specs.declared.arena.Arena.{Arena}
 use Rattle.table.specs.declared.arena.Opened.{Opened}
 use Rattle.table.specs.declared.arena.Opened.the-variants.{Open, Shut}
 use Rattle.table.specs.Job.{Job, isUnknown, modeIn, modeOf, gameOf, Effect}
-use Rattle.table.specs.Calls.{modeFault, jobFault, lengthFault, openFault, opening}
+use Rattle.table.specs.Calls.{modeFault, jobFault, lengthFault, openFault, Sound, Fitting, opening}
 use Rattle.table.specs.Arena.{arenaOf, boardIn, gameIn, Ready, openedBy, entered, opened}
 
 -- ---- reading an opened arena back
@@ -65,9 +65,12 @@ known : (n : Named) → (isUnknown n ≡ false) ↔ (n ≡ Known (modeIn n))
 known (Known m) = (λ e. refl, λ e. refl)
 known Unknown = (λ e. absurd (true≢false e), λ e. ap isUnknown e)
 
-pub job-line : (j : Job) → Line (jobFault j) (Formed (j .board) × (j .start < j .board .n) × (nameOf (j .mode) ≡ Known (modeOf (j .mode))))
+pub mode-line : (mode : ℕ) → Line (modeFault mode) (nameOf mode ≡ Known (modeOf mode))
+mode-line mode = fails-line (isUnknown (nameOf mode)) _ ModeNumber (known (nameOf mode))
+
+pub job-line : (j : Job) → Line (jobFault j) (Sound j)
 job-line j =
-    Iff·trans (table-line (automaton-line (j .board) (j .start) then fails-line (isUnknown (nameOf (j .mode))) _ ModeNumber (known (nameOf (j .mode))) then end))
+    Iff·trans (table-line (automaton-line (j .board) (j .start) then mode-line (j .mode) then end))
     (λ h. (h .0 .0, h .0 .1, h .1 .0), λ h. ((h .0, h .1), (h .2, tt)))
 
 -- T does not depend on the moves
@@ -102,6 +105,9 @@ module _ (j : Job) where
 
 size-line : (g : Game) (entries : ℕ) → Line (lengthFault g entries) (entries ≡ g .P)
 size-line g entries = fails-line _ _ TableLength (λ e. eqb-true entries (g .P) (not-false (eqb entries (g .P)) e), λ e. simp (eq-eqb entries (g .P) e))
+
+pub open-line : (j : Job) (t : List ℕ) → Line (openFault j (length t)) (Fitting j t)
+open-line j t = Iff·trans (table-line (job-line j then size-line (gameOf j) (length t) then end)) (λ h. (h .0, h .1 .0), λ h. (h .0, (h .1, tt)))
 
 module _ (j : Job) (entries : ℕ) where
   pub opened-shut : (r : Refusal) → entered j ≡ Shut r → Shut r ≡ opened j entries
@@ -141,11 +147,11 @@ module _ (j : Job) (t : List ℕ) where
     pub open-ready : Ready g (j .board .marks) (j .board .moves) t
     open-ready = subst (λ h. Ready h (j .board .marks) (j .board .moves) t) (open-is .1) ready
       where
-        holds : (Formed (j .board) × (j .start < j .board .n) × (nameOf (j .mode) ≡ Known (modeOf (j .mode)))) × ((length t ≡ gameOf j .P) × Unit {0})
-        holds = table-line (job-line j then size-line (gameOf j) (length t) then end) .0 (open-is .0)
+        holds : Fitting j t
+        holds = open-line j t .0 (open-is .0)
 
         ready : Ready (arenaOf (j .board) (modeOf (j .mode))) (j .board .marks) (j .board .moves) t
-        ready = record { formed = holds .0 .0; paired = refl; topped = refl; entries = holds .1 .0 }
+        ready = record { formed = holds .0 .0; paired = refl; topped = refl; entries = holds .1 }
 
 -- of the table, only the length matters to the arena
 pub ready-again : (g : Arena) (marks moves t u : List ℕ) → Ready g marks moves t → length u ≡ length t → Ready g marks moves u

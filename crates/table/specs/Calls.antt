@@ -1,16 +1,18 @@
 -- The calls on a table, for every input: what each answers, and the table after it.
+use mathlib.Core.Path.{_≡_}
 use mathlib.Core.Bool.{Bool, not, cond}
 use mathlib.Core.List.{List, [], _∷_}
-use Prim.Native.Nat.{ℕ}
+use Prim.Native.Nat.{ℕ, _≤_, _<_}
 use lib.Dec.{eqb, ltb, leb}
 use lib.ListN.{length}
 use Rattle.games.specs.Game.{Game, asked, at}
 use Rattle.games.specs.Lift.{cleared, lift, rise}
 use Rattle.games.specs.Settle.{Outcome, settle}
 use Rattle.automaton.specs.declared.Automaton.{Automaton}
+use Rattle.automaton.specs.declared.Named.the-variants.{Known}
 use Rattle.automaton.specs.declared.Refusal.the-variants.{ModeNumber, TableLength, AboveCeiling, PositionNumber}
 use Rattle.automaton.specs.Answer.{Answer, accepted, valued, Fault, fails, failsAt, firstFault, unless}
-use Rattle.automaton.specs.Board.{boardOf}
+use Rattle.automaton.specs.Board.{boardOf, Formed}
 use Rattle.automaton.specs.Check.{statesFault, lettersFault, automatonFault}
 use Rattle.automaton.specs.First.{first}
 use Rattle.automaton.specs.Limits.{nameOf}
@@ -45,6 +47,20 @@ entryFault g t = failsAt AboveCeiling (above (g .T) t) (length t)
 -- 11: "position not below P"
 abbrev pub positionFault : Game → ℕ → Fault
 positionFault g v = fails (leb (g .P) v) PositionNumber
+
+-- ---- what a call must be given, for none of them to apply
+
+-- 1 to 8: a well-formed automaton whose start is one of its states, and the number of a mode
+abbrev pub Sound : Job → Type 0
+Sound j = Formed (j .board) × (j .start < j .board .n) × (nameOf (j .mode) ≡ Known (modeOf (j .mode)))
+
+-- 1 to 9: and a table of P entries
+abbrev pub Fitting : Job → (table : List ℕ) → Type 0
+Fitting j t = Sound j × (length t ≡ gameOf j .P)
+
+-- 10: no entry above T
+abbrev pub Capped : Game → (table : List ℕ) → Type 0
+Capped g t = (v : ℕ) → at t v ≤ g .T
 
 -- ---- the two numbers of a table
 

@@ -1,0 +1,119 @@
+-- When each call is accepted, and that a refused one leaves the table as it was.
+use mathlib.Core.Path.{_≡_, refl, sym, ap, _∙_}
+use mathlib.Core.Logic.{_≢_, _↔_, Iff·trans}
+use mathlib.Core.Bool.{Bool, true, false, cond}
+use mathlib.Core.List.{List, [], _∷_}
+use Prim.Native.Nat.{ℕ, _≤_, _<_}
+use native.Mathlib.Decide.{decLt}
+use native.Mathlib.Omega.{arith}
+use lib.Dec.{ltb, leb}
+use lib.ListN.{length, List·getD-eq-default}
+use borrow.Author.Tests.{ltb-true, ltb-false, lt-ltb, le-ltb, leb-false, lt-leb}
+use Rattle.games.specs.Game.{Game, asked, at}
+use Rattle.games.specs.Lift.{lift, rise, cleared, AtRest}
+use Rattle.games.specs.Settle.{settle}
+use Rattle.automaton.specs.declared.Automaton.{Automaton}
+use Rattle.automaton.specs.declared.Named.the-variants.{Known}
+use Rattle.automaton.specs.declared.Refusal.the-variants.{AboveCeiling, PositionNumber}
+use Rattle.automaton.specs.Answer.{Answer, accepted, valued, Fault, none, fault, fails, firstFault, unless}
+use Rattle.automaton.specs.Board.{boardOf}
+use Rattle.automaton.specs.Limits.{mostStates, mostLetters, nameOf}
+use Rattle.automaton.specs.Check.{statesFault, lettersFault}
+use Rattle.automaton.specs.First.{first}
+use Rattle.automaton.proofs.Fault.{refusal-numbered, Line, fails-line, failsAt-line, _then_, end, table-line, unless-number, found}
+use Rattle.automaton.proofs.First.{Lowest, first-lowest, first-none}
+use Rattle.automaton.proofs.Sound.{states-line, letters-line}
+use Rattle.simulation.specs.Position.{positions}
+use Rattle.table.specs.Job.{Job, modeOf, gameOf, Effect, does}
+use Rattle.table.specs.Calls.{modeFault, jobFault, openFault, above, entryFault, positionFault, Sound, Fitting, Capped, sizing, topping, opening, clearing, lifted, lifting, restless, restAt, rested, resting, settling}
+use Rattle.table.proofs.Open.{mode-line, job-line, open-line}
+
+-- ---- the lines 10 and 11
+
+-- an entry out of range is 0
+capped-all : (g : Game) (t : List ℕ) → ((v : ℕ) → v < length t → at t v ≤ g .T) ↔ Capped g t
+capped-all g t = (λ h v. go h v (decLt v (length t)), λ h v l. h v)
+  where
+    go : ((v : ℕ) → v < length t → at t v ≤ g .T) → (v : ℕ) → Dec (v < length t) → at t v ≤ g .T
+    go h v (yes l) = h v l
+    go h v (no l) = omega (arith, List·getD-eq-default t 0 {n = v} (omega arith))
+
+pub entry-line : (g : Game) (t : List ℕ) → Line (entryFault g t) (Capped g t)
+entry-line g t =
+    failsAt-line AboveCeiling (above (g .T) t) _ (length t)
+    (Iff·trans (λ a v l. ltb-false (g .T) (at t v) (a v l), λ a v l. le-ltb (g .T) (at t v) (a v l)) (capped-all g t))
+
+position-line : (g : Game) (v : ℕ) → Line (positionFault g v) (v < g .P)
+position-line g v = fails-line _ _ PositionNumber (leb-false (g .P) v, lt-leb (g .P) v)
+
+-- ---- accepted
+
+-- a call that does e unless something is at fault
+does-number : (f : Fault) (t : List ℕ) (e : Effect) (P Q : Type 0) → Line f P → (e .answer .number ≡ 0) ↔ Q → (does f t e .answer .number ≡ 0) ↔ (P × Q)
+does-number none t e P Q l q = (λ z. (l .0 refl, q .0 z), λ h. q .1 (h .1))
+does-number (fault r) t e P Q l q = (λ z. absurd (omega (arith, refusal-numbered r)), λ h. absurd (found (l .1 (h .0))))
+
+always : (a : Answer) → a .number ≡ 0 → (a .number ≡ 0) ↔ Unit {0}
+always a z = (λ e. tt, λ e. z)
+
+alone : {P : Type 0} → (P × Unit {0}) ↔ P
+alone = (λ h. h .0, λ h. (h, tt))
+
+pub positions-accepted : (a : Automaton) (mode : ℕ)
+    → (sizing a mode .number ≡ 0) ↔ (((0 < a .states) × (a .states ≤ mostStates)) × ((0 < a .letters) × (a .letters ≤ mostLetters)) × (nameOf mode ≡ Known (modeOf mode)))
+positions-accepted a mode =
+    Iff·trans (unless-number (firstFault (statesFault (a .states) ∷ lettersFault (a .letters) ∷ modeFault mode ∷ [])) (valued (positions (boardOf a [] []) (modeOf mode))) refl)
+    (Iff·trans (table-line (states-line (a .states) then letters-line (a .letters) then mode-line mode then end)) (λ h. (h .0, h .1 .0, h .1 .1 .0), λ h. (h .0, (h .1, (h .2, tt)))))
+
+pub ceiling-accepted : (j : Job) → (topping j .number ≡ 0) ↔ Sound j
+ceiling-accepted j = Iff·trans (unless-number (jobFault j) (valued (gameOf j .T)) refl) (job-line j)
+
+pub clear-accepted : (j : Job) (t : List ℕ) → (clearing j t .answer .number ≡ 0) ↔ Fitting j t
+unfolding clearing
+clear-accepted j t = Iff·trans (does-number (openFault j (length t)) t _ _ _ (open-line j t) (always accepted refl)) alone
+
+pub settle-accepted : (j : Job) (t : List ℕ) → (settling j t .answer .number ≡ 0) ↔ Fitting j t
+unfolding settling
+settle-accepted j t = Iff·trans (does-number (openFault j (length t)) t _ _ _ (open-line j t) (always (valued (settle (gameOf j) .raised)) refl)) alone
+
+pub lift-accepted : (j : Job) (t : List ℕ) (v : ℕ) → (lifting j t v .answer .number ≡ 0) ↔ (Fitting j t × (Capped (gameOf j) t × (v < gameOf j .P)))
+unfolding lifting lifted
+lift-accepted j t v = does-number (openFault j (length t)) t _ _ _ (open-line j t) inner
+  where
+    inner : (lifted (gameOf j) t v .answer .number ≡ 0) ↔ (Capped (gameOf j) t × (v < gameOf j .P))
+    inner =
+        Iff·trans (does-number (firstFault (entryFault (gameOf j) t ∷ positionFault (gameOf j) v ∷ [])) t _ _ _ (table-line (entry-line (gameOf j) t then position-line (gameOf j) v then end)) (always (valued (rise (gameOf j) t v)) refl))
+        (λ h. (h .0 .0, h .0 .1 .0), λ h. ((h .0, (h .1, tt)), tt))
+
+rest-number : (P w : ℕ) → restAt P w .number ≡ 0
+rest-number P w = go (ltb w P)
+  where
+    go : (b : Bool) → cond b (record { number = 0; place = w; values = 0 ∷ 0 ∷ 0 ∷ [] }) (valued 1) .number ≡ 0
+    go true = refl
+    go false = refl
+
+pub rest-accepted : (j : Job) (t : List ℕ) → (resting j t .number ≡ 0) ↔ (Fitting j t × Capped (gameOf j) t)
+unfolding resting rested
+rest-accepted j t =
+    does-number (openFault j (length t)) t _ _ _ (open-line j t)
+    (Iff·trans (unless-number (entryFault (gameOf j) t) (restAt (gameOf j .P) _) (rest-number (gameOf j .P) _)) (entry-line (gameOf j) t))
+
+-- ---- refused
+
+does-kept : (f : Fault) (t : List ℕ) (e : Effect) → (e .answer .number ≢ 0 → e .table ≡ t) → does f t e .answer .number ≢ 0 → does f t e .table ≡ t
+does-kept none t e k n = k n
+does-kept (fault r) t e k n = refl
+
+pub clear-refused : (j : Job) (t : List ℕ) → clearing j t .answer .number ≢ 0 → clearing j t .table ≡ t
+unfolding clearing
+clear-refused j t = does-kept (openFault j (length t)) t _ (λ n. absurd (n refl))
+
+pub settle-refused : (j : Job) (t : List ℕ) → settling j t .answer .number ≢ 0 → settling j t .table ≡ t
+unfolding settling
+settle-refused j t = does-kept (openFault j (length t)) t _ (λ n. absurd (n refl))
+
+pub lift-refused : (j : Job) (t : List ℕ) (v : ℕ) → lifting j t v .answer .number ≢ 0 → lifting j t v .table ≡ t
+unfolding lifting lifted
+lift-refused j t v =
+    does-kept (openFault j (length t)) t _
+    (does-kept (firstFault (entryFault (gameOf j) t ∷ positionFault (gameOf j) v ∷ [])) t _ (λ n. absurd (n refl)))
