@@ -1,7 +1,6 @@
 -- An answer leaves no choice: a refusal is told by its number and place, and two results of `check` with the same answer are the same.
 use mathlib.Core.Path.{_≡_, refl, sym, ap, _∙_}
-use mathlib.Core.Logic.{_↔_}
-use Prim.Native.Nat.{ℕ, zero, suc, _<_}
+use Prim.Native.Nat.{ℕ, zero, suc}
 use native.Mathlib.Omega.{arith}
 use Rattle.automaton.specs.Answer.{Answer, accepted, refused, numberOf, placeOf, Fault, none, fault, unless}
 use Rattle.automaton.specs.Check.{answerOf}

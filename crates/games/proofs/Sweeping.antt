@@ -1,13 +1,13 @@
 -- What a loop that sweeps keeps: one position on, one sweep on, and the end.
 use mathlib.Core.Path.{_≡_, refl, sym, ap, _∙_}
 use mathlib.Core.List.{List, [], _∷_, _++_}
-use Prim.Native.Nat.{ℕ, zero, suc, _+_, _*_, _-_, _≤_, _<_, min}
+use Prim.Native.Nat.{ℕ, zero, suc, _+_, _-_, _≤_, _<_}
 use native.Mathlib.Nat.{add-zero, zero-add}
 use native.Mathlib.Omega.{arith}
 use lib.ListN.{length, set}
 use Rattle.games.specs.Game.{Game, asked, at}
-use Rattle.games.specs.Lift.{cleared, lift, lifts, rise, raises, bound, AtRest}
-use Rattle.games.specs.Settle.{ascending, sweep, Outcome, after, sweeps, enough, settle}
+use Rattle.games.specs.Lift.{cleared, lift, lifts, rise, raises, bound}
+use Rattle.games.specs.Settle.{ascending, sweep, after, sweeps, enough, settle}
 use Rattle.games.proofs.Lift.{lift-same, lift-still, lifts-entries, lifts-append, lifts-capped, cleared-entries, cleared-capped, rest-still}
 use Rattle.games.proofs.Raises.{unraised-rest, raises-append, total, total-lifts, total-most}
 use Rattle.games.proofs.Settle.{sweep-covers, settle-raises}

@@ -1,31 +1,29 @@
 -- When each call is accepted, and that a refused one leaves the table as it was.
-use mathlib.Core.Path.{_≡_, refl, sym, ap, _∙_}
+use mathlib.Core.Path.{_≡_, refl, ap, _∙_}
 use mathlib.Core.Logic.{_≢_, _↔_, Iff·trans}
 use mathlib.Core.Bool.{Bool, true, false, cond}
 use mathlib.Core.List.{List, [], _∷_}
 use Prim.Native.Nat.{ℕ, _≤_, _<_}
 use native.Mathlib.Decide.{decLt}
 use native.Mathlib.Omega.{arith}
-use lib.Dec.{ltb, leb}
-use lib.ListN.{length, List·getD-eq-default}
-use borrow.Author.Tests.{ltb-true, ltb-false, lt-ltb, le-ltb, leb-false, lt-leb}
-use Rattle.games.specs.Game.{Game, asked, at}
-use Rattle.games.specs.Lift.{lift, rise, cleared, AtRest}
+use lib.Dec.{ltb}
+use lib.ListN.{length, getD, List·getD-eq-default}
+use borrow.Author.Tests.{ltb-false, le-ltb, leb-false, lt-leb, le-leb}
+use Rattle.games.specs.Game.{Game, at}
+use Rattle.games.specs.Lift.{lift, rise, cleared}
 use Rattle.games.specs.Settle.{settle}
 use Rattle.automaton.specs.declared.Automaton.{Automaton}
 use Rattle.automaton.specs.declared.Named.the-variants.{Known}
 use Rattle.automaton.specs.declared.Refusal.the-variants.{AboveCeiling, PositionNumber}
-use Rattle.automaton.specs.Answer.{Answer, accepted, valued, Fault, none, fault, fails, firstFault, unless}
+use Rattle.automaton.specs.Answer.{Answer, accepted, valued, refused, Fault, none, fault, firstFault}
 use Rattle.automaton.specs.Board.{boardOf}
 use Rattle.automaton.specs.Limits.{mostStates, mostLetters, nameOf}
 use Rattle.automaton.specs.Check.{statesFault, lettersFault}
-use Rattle.automaton.specs.First.{first}
-use Rattle.automaton.proofs.Fault.{refusal-numbered, Line, fails-line, failsAt-line, _then_, end, table-line, unless-number, found}
-use Rattle.automaton.proofs.First.{Lowest, first-lowest, first-none}
+use Rattle.automaton.proofs.Fault.{refusal-numbered, Line, fails-line, failsAt-line, _then_, end, table-line, faults-passed, unless-number, found}
 use Rattle.automaton.proofs.Sound.{states-line, letters-line}
 use Rattle.simulation.specs.Position.{positions}
 use Rattle.table.specs.Job.{Job, modeOf, gameOf, Effect, does}
-use Rattle.table.specs.Calls.{modeFault, jobFault, openFault, above, entryFault, positionFault, Sound, Fitting, Capped, sizing, topping, opening, clearing, lifted, lifting, restless, restAt, rested, resting, settling}
+use Rattle.table.specs.Calls.{modeFault, jobFault, openFault, above, entryFault, positionFault, Sound, Fitting, Capped, sizing, topping, opening, clearing, lifted, lifting, restAt, rested, resting, settling}
 use Rattle.table.proofs.Open.{mode-line, job-line, open-line}
 
 -- ---- the lines 10 and 11
@@ -98,6 +96,38 @@ rest-accepted j t =
     does-number (openFault j (length t)) t _ _ _ (open-line j t)
     (Iff·trans (unless-number (entryFault (gameOf j) t) (restAt (gameOf j .P) _) (rest-number (gameOf j .P) _)) (entry-line (gameOf j) t))
 
+-- ---- what an accepted call does
+
+opening-does : (j : Job) (t : List ℕ) → Fitting j t → (e : Effect) → opening j t e ≡ e
+opening-does j t f e = ap (λ (k : Fault). does k t e) (open-line j t .1 f)
+
+pub clear-does : (j : Job) (t : List ℕ) → Fitting j t → clearing j t ≡ record { answer = accepted; table = cleared (gameOf j) }
+unfolding clearing
+clear-does j t f = opening-does j t f (record { answer = accepted; table = cleared (gameOf j) })
+
+pub settle-does : (j : Job) (t : List ℕ) → Fitting j t → settling j t ≡ record { answer = valued (settle (gameOf j) .raised); table = settle (gameOf j) .table }
+unfolding settling
+settle-does j t f = opening-does j t f (record { answer = valued (settle (gameOf j) .raised); table = settle (gameOf j) .table })
+
+module _ (j : Job) (t : List ℕ) (v : ℕ) (f : Fitting j t) (c : Capped (gameOf j) t) where
+  raising : Effect
+  raising = record { answer = valued (rise (gameOf j) t v); table = lift (gameOf j) t v }
+
+  lift-by : (k : Fault) → firstFault (entryFault (gameOf j) t ∷ positionFault (gameOf j) v ∷ []) ≡ k → lifting j t v ≡ does k t raising
+  unfolding lifting lifted raising
+  lift-by k e = opening-does j t f (lifted (gameOf j) t v) ∙ ap (λ (x : Fault). does x t raising) e
+
+  pub lift-does : v < gameOf j .P → lifting j t v ≡ record { answer = valued (rise (gameOf j) t v); table = lift (gameOf j) t v }
+  unfolding raising
+  lift-does h = lift-by none (table-line (entry-line (gameOf j) t then position-line (gameOf j) v then end) .1 (c, (h, tt)))
+
+  -- beyond the positions there is nothing to lift
+  pub lift-beyond : gameOf j .P ≤ v → lifting j t v ≡ record { answer = refused PositionNumber; table = t }
+  lift-beyond h = lift-by (fault PositionNumber) (faults-passed (entryFault (gameOf j) t ∷ []) (positionFault (gameOf j) v ∷ []) (alone-passed (entry-line (gameOf j) t .1 c)) ∙ simp (le-leb (gameOf j .P) v h))
+    where
+      alone-passed : {k : Fault} → k ≡ none → firstFault (k ∷ []) ≡ none
+      alone-passed e = rw e
+
 -- ---- refused
 
 does-kept : (f : Fault) (t : List ℕ) (e : Effect) → (e .answer .number ≢ 0 → e .table ≡ t) → does f t e .answer .number ≢ 0 → does f t e .table ≡ t
@@ -117,3 +147,14 @@ unfolding lifting lifted
 lift-refused j t v =
     does-kept (openFault j (length t)) t _
     (does-kept (firstFault (entryFault (gameOf j) t ∷ positionFault (gameOf j) v ∷ [])) t _ (λ n. absurd (n refl)))
+
+-- "values 0"
+does-zero : (f : Fault) (t : List ℕ) (e : Effect) → (e .answer .number ≢ 0 → getD (e .answer .values) 0 0 ≡ 0) → does f t e .answer .number ≢ 0 → getD (does f t e .answer .values) 0 0 ≡ 0
+does-zero none t e k n = k n
+does-zero (fault r) t e k n = refl
+
+pub lift-value : (j : Job) (t : List ℕ) (v : ℕ) → lifting j t v .answer .number ≢ 0 → getD (lifting j t v .answer .values) 0 0 ≡ 0
+unfolding lifting lifted
+lift-value j t v =
+    does-zero (openFault j (length t)) t _
+    (does-zero (firstFault (entryFault (gameOf j) t ∷ positionFault (gameOf j) v ∷ [])) t _ (λ n. absurd (n refl)))

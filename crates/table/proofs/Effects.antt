@@ -1,17 +1,15 @@
 -- What lift and rest do in an arena, by what the search for an entry above T found.
-use mathlib.Core.Path.{_≡_, refl, sym, ap, _∙_}
-use mathlib.Core.List.{List, [], _∷_}
+use mathlib.Core.Path.{_≡_, sym}
+use mathlib.Core.List.{List}
 use Prim.Native.Nat.{ℕ, _≤_, _<_}
-use lib.Dec.{ltb}
 use lib.ListN.{length}
 use borrow.Author.Tests.{lt-ltb, le-ltb, le-leb, lt-leb}
 use Rattle.games.specs.Game.{Game}
 use Rattle.games.specs.Lift.{lift, rise}
 use Rattle.automaton.specs.declared.Refusal.the-variants.{AboveCeiling, PositionNumber}
-use Rattle.automaton.specs.Answer.{Answer, valued, refused, Fault, none, fault}
+use Rattle.automaton.specs.Answer.{valued, refused, none, fault}
 use Rattle.automaton.specs.First.{first}
-use Rattle.table.specs.Job.{Effect}
-use Rattle.table.specs.Calls.{above, entryFault, positionFault, lifted, restless, restAt, rested}
+use Rattle.table.specs.Calls.{above, entryFault, lifted, restless, restAt, rested}
 
 module _ (g : Game) (t : List ℕ) (w : ℕ) (e : w ≡ first (above (g .T) t) 0 (length t)) where
   -- w is the first entry above T

@@ -1,10 +1,9 @@
 -- The promises leave no choice: two results with the same number, place and values are the same.
 use mathlib.Core.Path.{_≡_, refl, sym, ap}
-use mathlib.Core.List.{List}
 use Prim.Native.Nat.{ℕ}
 use native.Mathlib.Omega.{arith}
 use lib.ListN.{getD}
-use Rattle.automaton.specs.Answer.{Answer, accepted, valued, refused}
+use Rattle.automaton.specs.Answer.{Answer, accepted, valued}
 use Rattle.automaton.proofs.One.{one-refusal, refused-not}
 use Rattle.table.specs.Answers.{ofCleared, ofLifted, ofRested, ofSettled, ofCounted}
 use Rattle.table.specs.declared.Cleared.{Cleared}

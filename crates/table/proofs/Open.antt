@@ -1,9 +1,9 @@
 -- What opening an arena tells: which refusal there is, or that there is none and the arena fits the lent bytes.
 use mathlib.Core.Path.{_≡_, refl, sym, ap, _∙_, subst}
 use mathlib.Core.Logic.{_≢_, _↔_, Iff·trans}
-use mathlib.Core.Bool.{Bool, true, false, not, true≢false}
-use mathlib.Core.List.{List, [], _∷_}
-use Prim.Native.Nat.{ℕ, _+_, _*_, _<_}
+use mathlib.Core.Bool.{true, false, true≢false}
+use mathlib.Core.List.{List}
+use Prim.Native.Nat.{ℕ}
 use native.Mathlib.Omega.{arith}
 use lib.Dec.{eqb}
 use lib.ListN.{length}
@@ -16,20 +16,19 @@ use Rattle.automaton.specs.declared.Named.{Named}
 use Rattle.automaton.specs.declared.Named.the-variants.{Known, Unknown}
 use Rattle.automaton.specs.declared.Refusal.{Refusal}
 use Rattle.automaton.specs.declared.Refusal.the-variants.{ModeNumber, TableLength}
-use Rattle.automaton.specs.Answer.{refused, Fault, none, fault, fails, firstFault}
-use Rattle.automaton.specs.Board.{Board, boardOf, Formed}
+use Rattle.automaton.specs.Answer.{refused, Fault, none, fault}
+use Rattle.automaton.specs.Board.{boardOf}
 use Rattle.automaton.specs.Check.{automatonFault}
 use Rattle.automaton.specs.Limits.{nameOf}
 use Rattle.automaton.proofs.Fault.{Line, fails-line, _then_, end, table-line}
 use Rattle.automaton.proofs.Sound.{automaton-line}
-use Rattle.simulation.specs.Position.{pairs, positions}
 use Rattle.simulation.specs.Rules.{ceiling}
 use Rattle.table.specs.declared.arena.Arena.{Arena}
 use Rattle.table.specs.declared.arena.Opened.{Opened}
 use Rattle.table.specs.declared.arena.Opened.the-variants.{Open, Shut}
 use Rattle.table.specs.Job.{Job, isUnknown, modeIn, modeOf, gameOf, Effect}
 use Rattle.table.specs.Calls.{modeFault, jobFault, lengthFault, openFault, Sound, Fitting, opening}
-use Rattle.table.specs.Arena.{arenaOf, boardIn, gameIn, Ready, openedBy, entered, opened}
+use Rattle.table.specs.Arena.{arenaOf, gameIn, Ready, openedBy, entered, opened}
 
 -- ---- reading an opened arena back
 

@@ -1,6 +1,5 @@
 -- The number, place and values of each case of each call's answer. A refusal's are those of `automaton`.
 use mathlib.Core.List.{[], _∷_}
-use Prim.Native.Nat.{ℕ}
 use Rattle.automaton.specs.Answer.{Answer, accepted, valued, refused}
 use Rattle.table.specs.declared.Cleared.{Cleared}
 use Rattle.table.specs.declared.Cleared.the-variants as of-clear

@@ -7,7 +7,7 @@ use lib.Dec.{eqb, ltb, leb}
 use lib.ListN.{length}
 use Rattle.games.specs.Game.{Game, asked, at}
 use Rattle.games.specs.Lift.{cleared, lift, rise}
-use Rattle.games.specs.Settle.{Outcome, settle}
+use Rattle.games.specs.Settle.{settle}
 use Rattle.automaton.specs.declared.Automaton.{Automaton}
 use Rattle.automaton.specs.declared.Named.the-variants.{Known}
 use Rattle.automaton.specs.declared.Refusal.the-variants.{ModeNumber, TableLength, AboveCeiling, PositionNumber}

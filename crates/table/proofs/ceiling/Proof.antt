@@ -1,5 +1,5 @@
 -- `table::ceiling` meets its contract: T stands in the arena.
-use mathlib.Core.Path.{_≡_, sym, ap, _∙_}
+use mathlib.Core.Path.{sym, ap, _∙_}
 use borrow.Author.Needs.{needs}
 use Rattle.automaton.specs.Answer.{valued, unless}
 use Rattle.table.specs.declared.arena.Arena.{Arena}

@@ -7,8 +7,8 @@ use lib.ListN.{length}
 use Rattle.games.specs.Game.{Game}
 use Rattle.table.specs.declared.arena.Arena.{Arena}
 use Rattle.table.specs.declared.arena.Opened.the-variants.{Open}
-use Rattle.table.specs.Job.{Job, jobOf, gameOf, Effect}
-use Rattle.table.specs.Arena.{gameIn, opened, Ready}
+use Rattle.table.specs.Job.{Job, jobOf, gameOf}
+use Rattle.table.specs.Arena.{opened, Ready}
 use Rattle.table.specs.Calls.{lifted, lifting}
 use Rattle.table.proofs.Open.{both, shut-effect, open-effect, open-ready, open-game}
 use Rattle.table.proofs.lift.Statement.{statement}

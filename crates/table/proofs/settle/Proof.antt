@@ -8,7 +8,7 @@ use Rattle.games.specs.Game.{Game}
 use Rattle.table.specs.declared.arena.Arena.{Arena}
 use Rattle.table.specs.declared.arena.Opened.the-variants.{Open}
 use Rattle.table.specs.Job.{Job, jobOf, gameOf, Effect}
-use Rattle.table.specs.Arena.{gameIn, opened, Ready}
+use Rattle.table.specs.Arena.{opened, Ready}
 use Rattle.games.specs.Settle.{settle}
 use Rattle.automaton.specs.Answer.{valued}
 use Rattle.table.specs.Calls.{settling}

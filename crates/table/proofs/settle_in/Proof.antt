@@ -1,14 +1,11 @@
 -- `table::settle_in` meets its contract: the table that is swept is the cleared one.
-use mathlib.Core.Path.{_≡_, ap, _∙_}
-use mathlib.Core.List.{List}
+use mathlib.Core.Path.{ap, _∙_}
 use Prim.Native.Nat.{ℕ}
 use native.Mathlib.Omega.{arith}
 use borrow.Author.Needs.{needs}
 use lib.ListN.{length, replicate, length-replicate}
-use Rattle.games.specs.Game.{Game}
-use Rattle.games.specs.Lift.{cleared}
 use Rattle.simulation.proofs.Position.{positions-are}
-use Rattle.table.specs.Arena.{boardIn, gameIn}
+use Rattle.table.specs.Arena.{boardIn}
 use Rattle.table.proofs.Bounds.{row-most}
 use Rattle.table.proofs.Keys.{keys-ascend}
 use Rattle.table.proofs.Open.{ready-again}

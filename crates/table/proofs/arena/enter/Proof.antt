@@ -1,16 +1,14 @@
 -- `table::arena::enter` meets its contract: what `check` and `named` answered decides the refusal, and the arena has the game's numbers.
 use mathlib.Core.Path.{_≡_, refl, sym, ap, _∙_}
-use mathlib.Core.List.{List, []}
-use Prim.Native.Nat.{ℕ, _<_}
+use mathlib.Core.List.{[]}
+use Prim.Native.Nat.{ℕ}
 use borrow.Author.Needs.{needs}
 use Rattle.automaton.specs.declared.Checked.{Checked}
-use Rattle.automaton.specs.Answer.{accepted, Fault, none, fault, unless}
+use Rattle.automaton.specs.Answer.{accepted, none, unless}
 use Rattle.automaton.specs.Board.{Board, boardOf, Formed}
 use Rattle.automaton.specs.Check.{automatonFault, checked, answerOf}
 use Rattle.automaton.proofs.One.{unless-accepted, unless-refused}
 use Rattle.automaton.proofs.Sound.{automaton-line}
-use Rattle.table.specs.declared.arena.Arena.{Arena}
-use Rattle.table.specs.declared.arena.Opened.{Opened}
 use Rattle.table.specs.declared.arena.Opened.the-variants.{Open}
 use Rattle.table.specs.Job.{Job, jobOf}
 use Rattle.table.specs.Arena.{arenaOf}

@@ -1,17 +1,15 @@
 -- `table::arena::for_table` meets its contract: P is at most 139,264, so the product does not wrap.
 use mathlib.Core.Path.{_≡_, sym, ap, _∙_}
-use Prim.Native.Nat.{ℕ, _+_, _*_, _≤_}
+use Prim.Native.Nat.{_+_, _*_, _≤_}
 use native.Mathlib.Omega.{arith}
 use borrow.Author.Needs.{needs}
-use Rattle.automaton.specs.Answer.{Fault, none}
-use Rattle.automaton.specs.Board.{Formed}
-use Rattle.simulation.specs.Position.{positions}
+use Rattle.automaton.specs.Answer.{none}
 use Rattle.simulation.proofs.Limits.{positions-most}
 use Rattle.table.specs.declared.arena.Arena.{Arena}
 use Rattle.table.specs.declared.arena.Opened.the-variants.{Open}
 use Rattle.table.specs.Job.{Job, jobOf, modeOf, gameOf}
 use Rattle.table.specs.Calls.{jobFault}
-use Rattle.table.specs.Arena.{arenaOf, entered}
+use Rattle.table.specs.Arena.{entered}
 use Rattle.table.proofs.Open.{job-line, enter-open, opened-shut, opened-length, opened-open}
 use Rattle.table.proofs.arena.for_table.Statement.{statement}
 use Rattle.table.proofs.arena.for_table.Tie as tie

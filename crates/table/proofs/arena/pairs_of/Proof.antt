@@ -1,7 +1,7 @@
 -- `table::arena::pairs_of` meets its contract: at most 64 states, so no product wraps.
 use mathlib.Core.Path.{_≡_, ap}
 use mathlib.Core.List.{[]}
-use Prim.Native.Nat.{ℕ, _*_, _≤_}
+use Prim.Native.Nat.{ℕ, _*_}
 use native.Mathlib.Nat.{mul-le-mul}
 use native.Mathlib.Omega.{arith}
 use borrow.Author.Needs.{needs}

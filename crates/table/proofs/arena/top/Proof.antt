@@ -1,14 +1,11 @@
 -- `table::arena::top` meets its contract: f is at most n and n at most 64, so nothing wraps and T fits four bytes.
-use mathlib.Core.Path.{_≡_, sym, ap, _∙_}
-use mathlib.Core.List.{List, []}
+use mathlib.Core.Path.{_≡_, ap}
+use mathlib.Core.List.{[]}
 use Prim.Native.Nat.{ℕ, _+_, _*_, _-_, _≤_}
 use native.Mathlib.Omega.{arith}
 use borrow.Author.Needs.{needs}
-use lib.Dec.{eqb}
-use lib.ListN.{getD}
-use Rattle.games.specs.Play.{count}
 use Rattle.automaton.specs.Board.{boardOf}
-use Rattle.simulation.specs.Rules.{bit, ones, ceiling}
+use Rattle.simulation.specs.Rules.{ones}
 use Rattle.simulation.proofs.Counting.{ones-most}
 use Rattle.simulation.proofs.Limits.{delayed-most, fair-most}
 use Rattle.table.proofs.arena.top.Statement.{statement}

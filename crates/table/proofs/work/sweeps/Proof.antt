@@ -5,10 +5,9 @@ use mathlib.Core.List.{List}
 use Prim.Native.Nat.{ℕ, _+_, _*_, _-_, _≤_, _<_}
 use native.Mathlib.Nat.{mul-le-mul}
 use native.Mathlib.Omega.{arith}
-use borrow.Author.Needs.{needs}
 use lib.ListN.{length}
 use Rattle.games.specs.Game.{Game}
-use Rattle.games.specs.Lift.{lifts, raises, bound}
+use Rattle.games.specs.Lift.{raises, bound}
 use Rattle.games.specs.Settle.{sweep}
 use Rattle.games.proofs.Lift.{lifts-entries}
 use Rattle.games.proofs.Raises.{total}

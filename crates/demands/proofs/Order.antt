@@ -1,0 +1,68 @@
+-- Calls of `lift` one after another do what the lifts of their positions do: a refused one does nothing.
+use mathlib.Core.Path.{_≡_, refl, sym, ap, _∙_, subst}
+use mathlib.Core.List.{List, [], _∷_}
+use Prim.Native.Nat.{ℕ, _<_}
+use native.Mathlib.Decide.{decLt}
+use native.Mathlib.Omega.{arith}
+use lib.ListN.{length}
+use borrow.Rule.Slice.PartMut.{put-same}
+use Rattle.games.specs.Lift.{lift, lifts, rise, raises}
+use Rattle.games.proofs.Lift.{lift-entries, lift-out, lifts-entries, lifts-capped}
+use Rattle.table.specs.Job.{Job, gameOf, Effect}
+use Rattle.table.specs.Calls.{Sound, Capped, lifting}
+use Rattle.table.proofs.Accepted.{lift-refused, lift-does, lift-beyond, lift-value}
+use Rattle.demands.specs.Order.{Call, due, stray, part, restored, effect, Orderly, AllOrderly, after, value, raised, lifted}
+
+-- a table of the one automaton and mode that lifting has filled
+pub record Held (j : Job) (t : List ℕ) : Type 0 where
+  pub sound : Sound j
+  pub entries : length t ≡ gameOf j .P
+  pub capped : Capped (gameOf j) t
+
+module _ (j : Job) (t : List ℕ) (H : Held j t) where
+  -- a due call lifts its position, or does nothing where that is out of range
+  due-is : (v : ℕ) → (lifting j t v .table ≡ lift (gameOf j) t v) × (value (lifting j t v .answer) ≡ rise (gameOf j) t v)
+  due-is v = go (decLt v (gameOf j .P))
+    where
+      go : Dec (v < gameOf j .P) → (lifting j t v .table ≡ lift (gameOf j) t v) × (value (lifting j t v .answer) ≡ rise (gameOf j) t v)
+      go (yes h) =
+          let e = lift-does j t v (H .sound, H .entries) (H .capped) h in
+          (ap (λ (x : Effect). x .table) e, ap (λ (x : Effect). value (x .answer)) e)
+      go (no h) =
+          let e = lift-beyond j t v (H .sound, H .entries) (H .capped) (omega arith) in
+          let s = lift-out (gameOf j) t v (omega (arith, H .entries)) in
+          (ap (λ (x : Effect). x .table) e ∙ sym s, ap (λ (x : Effect). value (x .answer)) e ∙ rw s (omega arith))
+
+  held-lift : (v : ℕ) → Held j (lift (gameOf j) t v)
+  held-lift v = record {
+    sound = H .sound;
+    entries = lift-entries (gameOf j) t v ∙ H .entries;
+    capped = lifts-capped (gameOf j) (v ∷ []) t (H .entries) (H .capped);
+  }
+
+-- a stray call that was refused leaves the table, and has the value 0
+stray-is : (j i : Job) (t : List ℕ) (skip count v : ℕ) → Orderly j t (stray i skip count v)
+    → (effect j t (stray i skip count v) .table ≡ t) × (value (effect j t (stray i skip count v) .answer) ≡ 0)
+stray-is j i t skip count v n =
+    (ap (restored skip count t) (lift-refused i (part skip count t) v n) ∙ put-same skip count t, lift-value i (part skip count t) v n)
+
+-- so any calls come to the lifts of the positions that were due
+pub after-lifts : (j : Job) (cs : List Call) (t : List ℕ) → Held j t → AllOrderly j t cs
+    → (after j t cs ≡ lifts (gameOf j) t (lifted cs)) × (raised j t cs ≡ raises (gameOf j) t (lifted cs))
+after-lifts j [] t H o = (refl, refl)
+after-lifts j (due v ∷ cs) t H o =
+    let (e, r) = due-is j t H v in
+    let (a, b) = after-lifts j cs (lift (gameOf j) t v) (held-lift j t H v) (subst (λ (u : List ℕ). AllOrderly j u cs) e (o .1)) in
+    (ap (λ (u : List ℕ). after j u cs) e ∙ a, omega (arith, r, ap (λ (u : List ℕ). raised j u cs) e, b))
+after-lifts j (stray i skip count v ∷ cs) t H o =
+    let (e, r) = stray-is j i t skip count v (o .0) in
+    let (a, b) = after-lifts j cs t H (subst (λ (u : List ℕ). AllOrderly j u cs) e (o .1)) in
+    (ap (λ (u : List ℕ). after j u cs) e ∙ a, omega (arith, r, ap (λ (u : List ℕ). raised j u cs) e, b))
+
+-- and leave a table that may be lifted on
+pub held-after : (j : Job) (cs : List Call) (t : List ℕ) → Held j t → AllOrderly j t cs → Held j (after j t cs)
+held-after j cs t H o = subst (Held j) (sym (after-lifts j cs t H o .0)) (record {
+  sound = H .sound;
+  entries = lifts-entries (gameOf j) (lifted cs) t ∙ H .entries;
+  capped = lifts-capped (gameOf j) (lifted cs) t (H .entries) (H .capped);
+})
