@@ -11,7 +11,8 @@ use Rattle.games.proofs.Raises.{Covers}
 use Rattle.games.proofs.Lift as lifting-laws
 use Rattle.games.proofs.Raises as raising-laws
 use Rattle.games.proofs.Settle as settling-laws
-use Rattle.table.specs.Job.{Job, gameOf, Effect}
+use Rattle.arena.specs.Job.{Job, gameOf}
+use Rattle.table.specs.Effect.{Effect}
 use Rattle.table.specs.Calls.{clearing, settling}
 use Rattle.table.proofs.Accepted.{clear-accepted, clear-does, settle-accepted, settle-does}
 use Rattle.demands.specs.Order.{Call, AllOrderly, after, raised, lifted}

@@ -8,8 +8,10 @@ use lib.ListN.{length}
 use borrow.Rule.Slice.PartMut.{put-same}
 use Rattle.games.specs.Lift.{lift, lifts, rise, raises}
 use Rattle.games.proofs.Lift.{lift-entries, lift-out, lifts-entries, lifts-capped}
-use Rattle.table.specs.Job.{Job, gameOf, Effect}
-use Rattle.table.specs.Calls.{Sound, Capped, lifting}
+use Rattle.arena.specs.Job.{Job, gameOf}
+use Rattle.table.specs.Effect.{Effect}
+use Rattle.arena.specs.Refusals.{Sound}
+use Rattle.table.specs.Calls.{Capped, lifting}
 use Rattle.table.proofs.Accepted.{lift-refused, lift-does, lift-beyond, lift-value}
 use Rattle.demands.specs.Order.{Call, due, stray, part, restored, effect, Orderly, AllOrderly, after, value, raised, lifted}
 

@@ -6,7 +6,8 @@ use mathlib.Core.List.{List, [], _∷_, _++_}
 use Prim.Native.Nat.{ℕ, _+_}
 use lib.ListN.{getD, take, drop}
 use Rattle.automaton.specs.Answer.{Answer}
-use Rattle.table.specs.Job.{Job, Effect}
+use Rattle.arena.specs.Job.{Job}
+use Rattle.table.specs.Effect.{Effect}
 use Rattle.table.specs.Calls.{lifting}
 
 -- one call of `lift`

@@ -12,19 +12,14 @@ use borrow.Author.Tests.{ltb-false, le-ltb, leb-false, lt-leb, le-leb}
 use Rattle.games.specs.Game.{Game, at}
 use Rattle.games.specs.Lift.{lift, rise, cleared}
 use Rattle.games.specs.Settle.{settle}
-use Rattle.automaton.specs.declared.Automaton.{Automaton}
-use Rattle.automaton.specs.declared.Named.the-variants.{Known}
 use Rattle.automaton.specs.declared.Refusal.the-variants.{AboveCeiling, PositionNumber}
 use Rattle.automaton.specs.Answer.{Answer, accepted, valued, refused, Fault, none, fault, firstFault}
-use Rattle.automaton.specs.Board.{boardOf}
-use Rattle.automaton.specs.Limits.{mostStates, mostLetters, nameOf}
-use Rattle.automaton.specs.Check.{statesFault, lettersFault}
 use Rattle.automaton.proofs.Fault.{refusal-numbered, Line, fails-line, failsAt-line, _then_, end, table-line, faults-passed, unless-number, found}
-use Rattle.automaton.proofs.Sound.{states-line, letters-line}
-use Rattle.simulation.specs.Position.{positions}
-use Rattle.table.specs.Job.{Job, modeOf, gameOf, Effect, does}
-use Rattle.table.specs.Calls.{modeFault, jobFault, openFault, above, entryFault, positionFault, Sound, Fitting, Capped, sizing, topping, opening, clearing, lifted, lifting, restAt, rested, resting, settling}
-use Rattle.table.proofs.Open.{mode-line, job-line, open-line}
+use Rattle.arena.specs.Job.{Job, gameOf}
+use Rattle.arena.specs.Refusals.{openFault, Fitting}
+use Rattle.table.specs.Effect.{Effect, does, opening}
+use Rattle.table.specs.Calls.{above, entryFault, positionFault, Capped, clearing, lifted, lifting, restAt, rested, resting, settling}
+use Rattle.arena.proofs.Open.{open-line}
 
 -- ---- the lines 10 and 11
 
@@ -56,15 +51,6 @@ always a z = (λ e. tt, λ e. z)
 
 alone : {P : Type 0} → (P × Unit {0}) ↔ P
 alone = (λ h. h .0, λ h. (h, tt))
-
-pub positions-accepted : (a : Automaton) (mode : ℕ)
-    → (sizing a mode .number ≡ 0) ↔ (((0 < a .states) × (a .states ≤ mostStates)) × ((0 < a .letters) × (a .letters ≤ mostLetters)) × (nameOf mode ≡ Known (modeOf mode)))
-positions-accepted a mode =
-    Iff·trans (unless-number (firstFault (statesFault (a .states) ∷ lettersFault (a .letters) ∷ modeFault mode ∷ [])) (valued (positions (boardOf a [] []) (modeOf mode))) refl)
-    (Iff·trans (table-line (states-line (a .states) then letters-line (a .letters) then mode-line mode then end)) (λ h. (h .0, h .1 .0, h .1 .1 .0), λ h. (h .0, (h .1, (h .2, tt)))))
-
-pub ceiling-accepted : (j : Job) → (topping j .number ≡ 0) ↔ Sound j
-ceiling-accepted j = Iff·trans (unless-number (jobFault j) (valued (gameOf j .T)) refl) (job-line j)
 
 pub clear-accepted : (j : Job) (t : List ℕ) → (clearing j t .answer .number ≡ 0) ↔ Fitting j t
 unfolding clearing

@@ -16,8 +16,9 @@ use Rattle.simulation.specs.Rules.{pended, eased, challenge, reply}
 use Rattle.simulation.proofs.Inward.{pended-lt, eased-lt}
 use Rattle.simulation.proofs.Position.{number-lt}
 use Rattle.simulation.proofs.Ranges.{arrows-range, targets-range}
-use Rattle.table.specs.declared.arena.Arena.{Arena}
-use Rattle.table.specs.Arena.{boardIn, Ready, onward}
+use Rattle.arena.specs.declared.Arena.{Arena}
+use Rattle.arena.specs.Arena.{boardIn, Ready}
+use Rattle.table.specs.Asked.{onward}
 use Rattle.table.specs.Index.{Indexed}
 use Rattle.table.specs.Steps.{spotOf, ahead, Leading, spoilerSteps, duplicatorSteps}
 use Rattle.table.proofs.Keys.{leaving, leaving-order, leaving-inside, answering, answering-order, answering-inside}

@@ -13,10 +13,12 @@ use Rattle.games.specs.Lift.{Rest, AtRest}
 use Rattle.automaton.specs.Answer.{Answer, valued, Fault, unless}
 use Rattle.automaton.specs.First.{first}
 use Rattle.automaton.proofs.First.{first-lowest, first-none}
-use Rattle.table.specs.Job.{Job, gameOf, does}
-use Rattle.table.specs.Calls.{Sound, Fitting, Capped, restless, restAt, rested, resting}
+use Rattle.arena.specs.Job.{Job, gameOf}
+use Rattle.table.specs.Effect.{does}
+use Rattle.arena.specs.Refusals.{Sound, Fitting}
+use Rattle.table.specs.Calls.{Capped, restless, restAt, rested, resting}
 use Rattle.table.proofs.Accepted.{entry-line, rest-accepted}
-use Rattle.table.proofs.Open.{open-line}
+use Rattle.arena.proofs.Open.{open-line}
 
 -- the lowest position not at rest, or P
 abbrev lowest : Game → List ℕ → ℕ

@@ -1,10 +1,10 @@
-pub mod Open
 pub mod Parts
 pub mod Keys
 pub mod Ahead
 pub mod Bounds
 pub mod Stretch
+pub mod Opening
 pub mod Effects
 pub mod Accepted
-pub mod One
 pub mod AtRest
+pub mod One

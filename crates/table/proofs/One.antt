@@ -5,7 +5,7 @@ use native.Mathlib.Omega.{arith}
 use lib.ListN.{getD}
 use Rattle.automaton.specs.Answer.{Answer, accepted, valued}
 use Rattle.automaton.proofs.One.{one-refusal, refused-not}
-use Rattle.table.specs.Answers.{ofCleared, ofLifted, ofRested, ofSettled, ofCounted}
+use Rattle.table.specs.Answers.{ofCleared, ofLifted, ofRested, ofSettled}
 use Rattle.table.specs.declared.Cleared.{Cleared}
 use Rattle.table.specs.declared.Cleared.the-variants as of-clear
 use Rattle.table.specs.declared.Lifted.{Lifted}
@@ -14,8 +14,6 @@ use Rattle.table.specs.declared.Rested.{Rested}
 use Rattle.table.specs.declared.Rested.the-variants as of-rest
 use Rattle.table.specs.declared.Settled.{Settled}
 use Rattle.table.specs.declared.Settled.the-variants as of-settle
-use Rattle.table.specs.declared.Counted.{Counted}
-use Rattle.table.specs.declared.Counted.the-variants as of-count
 
 -- the first value of an answer
 value : Answer → ℕ
@@ -57,10 +55,3 @@ one-settled (of-settle.Raised n) (of-settle.Raised m) e = ap of-settle.Raised (a
 one-settled (of-settle.Raised n) (of-settle.Refused s) e = absurd (refused-not s (valued n) refl (sym e))
 one-settled (of-settle.Refused r) (of-settle.Raised m) e = absurd (refused-not r (valued m) refl e)
 one-settled (of-settle.Refused r) (of-settle.Refused s) e = ap of-settle.Refused (one-refusal r s e)
-
-pub one-counted : (r s : Counted) → ofCounted r ≡ ofCounted s → r ≡ s
-unfolding value
-one-counted (of-count.Number n) (of-count.Number m) e = ap of-count.Number (ap value e)
-one-counted (of-count.Number n) (of-count.Refused s) e = absurd (refused-not s (valued n) refl (sym e))
-one-counted (of-count.Refused r) (of-count.Number m) e = absurd (refused-not r (valued m) refl e)
-one-counted (of-count.Refused r) (of-count.Refused s) e = ap of-count.Refused (one-refusal r s e)

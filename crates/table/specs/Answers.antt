@@ -9,8 +9,6 @@ use Rattle.table.specs.declared.Rested.{Rested}
 use Rattle.table.specs.declared.Rested.the-variants as of-rest
 use Rattle.table.specs.declared.Settled.{Settled}
 use Rattle.table.specs.declared.Settled.the-variants as of-settle
-use Rattle.table.specs.declared.Counted.{Counted}
-use Rattle.table.specs.declared.Counted.the-variants as of-count
 
 abbrev pub ofCleared : Cleared → Answer
 ofCleared of-clear.Done = accepted
@@ -29,7 +27,3 @@ ofRested (of-rest.Refused r) = refused r
 abbrev pub ofSettled : Settled → Answer
 ofSettled (of-settle.Raised n) = valued n
 ofSettled (of-settle.Refused r) = refused r
-
-abbrev pub ofCounted : Counted → Answer
-ofCounted (of-count.Number n) = valued n
-ofCounted (of-count.Refused r) = refused r

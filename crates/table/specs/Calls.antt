@@ -1,41 +1,19 @@
 -- The calls on a table, for every input: what each answers, and the table after it.
-use mathlib.Core.Path.{_≡_}
-use mathlib.Core.Bool.{Bool, not, cond}
+use mathlib.Core.Bool.{Bool, cond}
 use mathlib.Core.List.{List, [], _∷_}
-use Prim.Native.Nat.{ℕ, _≤_, _<_}
-use lib.Dec.{eqb, ltb, leb}
+use Prim.Native.Nat.{ℕ, _≤_}
+use lib.Dec.{ltb, leb}
 use lib.ListN.{length}
 use Rattle.games.specs.Game.{Game, asked, at}
 use Rattle.games.specs.Lift.{cleared, lift, rise}
 use Rattle.games.specs.Settle.{settle}
-use Rattle.automaton.specs.declared.Automaton.{Automaton}
-use Rattle.automaton.specs.declared.Named.the-variants.{Known}
-use Rattle.automaton.specs.declared.Refusal.the-variants.{ModeNumber, TableLength, AboveCeiling, PositionNumber}
+use Rattle.automaton.specs.declared.Refusal.the-variants.{AboveCeiling, PositionNumber}
 use Rattle.automaton.specs.Answer.{Answer, accepted, valued, Fault, fails, failsAt, firstFault, unless}
-use Rattle.automaton.specs.Board.{boardOf, Formed}
-use Rattle.automaton.specs.Check.{statesFault, lettersFault, automatonFault}
 use Rattle.automaton.specs.First.{first}
-use Rattle.automaton.specs.Limits.{nameOf}
-use Rattle.simulation.specs.Position.{positions}
-use Rattle.table.specs.Job.{Job, isUnknown, modeOf, gameOf, Effect, does}
+use Rattle.arena.specs.Job.{Job, gameOf}
+use Rattle.table.specs.Effect.{Effect, does, opening}
 
--- ---- the refusals
-
--- 8: "mode above 3"
-abbrev pub modeFault : (mode : ℕ) → Fault
-modeFault mode = fails (isUnknown (nameOf mode)) ModeNumber
-
--- 1 to 8
-abbrev pub jobFault : Job → Fault
-jobFault j = firstFault (automatonFault (j .board) (j .start) ∷ modeFault (j .mode) ∷ [])
-
--- 9: "table length not P"
-abbrev pub lengthFault : Game → (entries : ℕ) → Fault
-lengthFault g entries = fails (not (eqb entries (g .P))) TableLength
-
--- 1 to 9
-abbrev pub openFault : Job → (entries : ℕ) → Fault
-openFault j entries = firstFault (jobFault j ∷ lengthFault (gameOf j) entries ∷ [])
+-- ---- the refusals 10 and 11
 
 -- 10: "an entry above T" at "first such entry"
 abbrev pub above : (T : ℕ) → (table : List ℕ) → ℕ → Bool
@@ -48,35 +26,11 @@ entryFault g t = failsAt AboveCeiling (above (g .T) t) (length t)
 abbrev pub positionFault : Game → ℕ → Fault
 positionFault g v = fails (leb (g .P) v) PositionNumber
 
--- ---- what a call must be given, for none of them to apply
-
--- 1 to 8: a well-formed automaton whose start is one of its states, and the number of a mode
-abbrev pub Sound : Job → Type 0
-Sound j = Formed (j .board) × (j .start < j .board .n) × (nameOf (j .mode) ≡ Known (modeOf (j .mode)))
-
--- 1 to 9: and a table of P entries
-abbrev pub Fitting : Job → (table : List ℕ) → Type 0
-Fitting j t = Sound j × (length t ≡ gameOf j .P)
-
--- 10: no entry above T
+-- no refusal 10: no entry above T
 abbrev pub Capped : Game → (table : List ℕ) → Type 0
 Capped g t = (v : ℕ) → at t v ≤ g .T
 
--- ---- the two numbers of a table
-
--- P, after refusals 1, 2 and 8
-abbrev pub sizing : Automaton → (mode : ℕ) → Answer
-sizing a mode =
-    unless (firstFault (statesFault (a .states) ∷ lettersFault (a .letters) ∷ modeFault mode ∷ [])) (valued (positions (boardOf a [] []) (modeOf mode)))
-
--- T, after refusals 1 to 8
-abbrev pub topping : Job → Answer
-topping j = unless (jobFault j) (valued (gameOf j .T))
-
--- ---- the four calls: first the refusals 1 to 9, then what each does in the game
-
-abbrev pub opening : Job → (table : List ℕ) → Effect → Effect
-opening j t e = does (openFault j (length t)) t e
+-- ---- the four calls
 
 -- "Clear: fill the table with 0."
 unfoldable pub clearing : Job → (table : List ℕ) → Effect

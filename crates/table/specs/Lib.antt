@@ -1,7 +1,6 @@
-pub mod Job
+pub mod Effect
 pub mod Calls
 pub mod Answers
-pub mod Arena
 pub mod Index
 pub mod Steps
-pub mod Turn
+pub mod Asked

@@ -7,7 +7,7 @@ use lib.ListN.{length, getD}
 use Rattle.games.specs.Settle.{ascending}
 use Rattle.automaton.specs.Board.{letter, to}
 use Rattle.simulation.specs.Rules.{pended, eased}
-use Rattle.table.specs.declared.arena.Arena.{Arena}
+use Rattle.arena.specs.declared.Arena.{Arena}
 use Rattle.table.specs.declared.steps.Steps.{Steps}
 
 -- the position that move i leads to

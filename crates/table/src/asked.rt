@@ -5,15 +5,15 @@ ghost use lib.ListN.{length};
 ghost use Rattle.games.specs.Game.{asked, at, highest, lowest};
 ghost use Rattle.simulation.specs.Position.{duplicator, layers, spoiler};
 ghost use Rattle.simulation.specs.Rules.{turn};
-ghost use Rattle.table.specs.Arena.{askedOf, boardIn, gameIn, onward, Ready};
+ghost use Rattle.arena.specs.Arena.{boardIn, gameIn, Ready};
+ghost use Rattle.table.specs.Asked.{askedOf, kindIn, onward};
 ghost use Rattle.table.specs.Index.{Indexed};
-ghost use Rattle.table.specs.Turn.{kindIn};
-use super::arena::Arena;
 use super::scan::high;
 use super::scan::low;
 use super::steps::accepts;
 use super::steps::duplicator_steps;
 use super::steps::spoiler_steps;
+use arena::Arena;
 use automaton::Mode;
 
 // How Spoiler's position asks.

@@ -1,6 +1,5 @@
-// The calls on a lent table: `clear`, `lift`, `rest` and `settle`, and the two numbers that a caller needs to lend one.
+// The calls on a lent table: `clear`, `lift`, `rest` and `settle`. `arena::positions` and `arena::ceiling` give its length and T.
 // Each call first decides whether to refuse, and writes nothing if it does.
-mod arena; // arena.rt: the numbers of a game, and the refusals that the calls share
 mod asked; // asked.rt: the value that a position asks for
 mod index; // index.rt: where the moves of each state and letter begin
 mod scan; // scan.rt: High and Low
@@ -10,16 +9,13 @@ mod work; // work.rt: filling, lifting and sweeping a table
 ghost use mathlib.Core.Path.{_≡_};
 ghost use lib.ListN.{length};
 ghost use Rattle.games.specs.Settle.{settle};
-ghost use Rattle.table.specs.Answers.{ofCleared, ofCounted, ofLifted, ofRested, ofSettled};
-ghost use Rattle.table.specs.Arena.{gameIn, Ready};
-ghost use Rattle.table.specs.Calls.{clearing, lifted, lifting, rested, resting, settling, sizing, topping};
-ghost use Rattle.table.specs.Job.{jobOf};
+ghost use Rattle.arena.specs.Arena.{gameIn, Ready};
+ghost use Rattle.arena.specs.Job.{jobOf};
+ghost use Rattle.table.specs.Answers.{ofCleared, ofLifted, ofRested, ofSettled};
+ghost use Rattle.table.specs.Calls.{clearing, lifted, lifting, rested, resting, settling};
 use arena::Arena;
 use arena::Opened;
 use automaton::Automaton;
-use automaton::Checked;
-use automaton::Mode;
-use automaton::Named;
 use automaton::Refusal;
 
 // What `clear` answers.
@@ -46,39 +42,6 @@ pub enum Rested {
 pub enum Settled {
     Raised(usize),
     Refused(Refusal),
-}
-
-// What `positions` and `ceiling` answer.
-pub enum Counted {
-    Number(usize),
-    Refused(Refusal),
-}
-
-// P, the number of entries of a table for this automaton and mode. Refusals 1, 2 and 8.
-pub fn positions(a: Automaton, mode: usize) -> Counted
-    ensures { λ r. ⌜ ofCounted r ≡ sizing a mode ⌝ }
-{
-    let limited = automaton::limits(a);
-    match limited {
-        Checked::Refused(refusal) => return Counted::Refused(refusal),
-        Checked::Sound => {}
-    }
-    let named = Mode::named(mode);
-    match named {
-        Named::Unknown => Counted::Refused(Refusal::ModeNumber),
-        Named::Known(known) => Counted::Number(arena::size(a, known)),
-    }
-}
-
-// T, the largest entry allowed, which means lost. Refusals 1 to 8.
-pub fn ceiling(a: Automaton, marks: &[u8], moves: &[u8], mode: usize) -> Counted
-    ensures { λ r. ⌜ ofCounted r ≡ topping (jobOf a (now (marks .entry)) (now (moves .entry)) mode) ⌝ }
-{
-    let opened = arena::enter(a, marks, moves, mode);
-    match opened {
-        Opened::Shut(refusal) => Counted::Refused(refusal),
-        Opened::Open(g) => Counted::Number(g.top as usize),
-    }
 }
 
 // Fills the table with 0. Refusals 1 to 9.

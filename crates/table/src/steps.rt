@@ -8,8 +8,8 @@ ghost use Rattle.automaton.specs.Board.{to};
 ghost use Rattle.automaton.specs.Limits.{mostLetters, mostStates};
 ghost use Rattle.simulation.specs.Rules.{eased, pended};
 ghost use Rattle.table.specs.Steps.{duplicatorSteps, spoilerSteps, spotOf};
-use super::arena::Arena;
 use super::index::wide;
+use arena::Arena;
 use automaton::Mode;
 
 // The moves from lo up to hi. One to the state r by the letter a leads to the position base + r · stride + a · step,

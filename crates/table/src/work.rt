@@ -7,11 +7,11 @@ ghost use Rattle.automaton.specs.First.{first};
 ghost use Rattle.games.specs.Game.{at};
 ghost use Rattle.games.specs.Lift.{cleared, lift, lifts, raises, rise};
 ghost use Rattle.games.specs.Settle.{settle, sweep};
-ghost use Rattle.table.specs.Arena.{gameIn, Ready};
+ghost use Rattle.arena.specs.Arena.{gameIn, Ready};
 ghost use Rattle.table.specs.Calls.{above, restless};
 ghost use Rattle.table.specs.Index.{Indexed};
-use super::arena::Arena;
 use super::asked::asked;
+use arena::Arena;
 
 // Fills a stretch of a table with 0.
 pub fn fill(part: &mut [u32])

@@ -9,12 +9,14 @@ use Rattle.games.specs.Game.{Game}
 use Rattle.games.specs.Lift.{cleared}
 use Rattle.automaton.specs.Answer.{accepted}
 use Rattle.simulation.proofs.Position.{positions-are}
-use Rattle.table.specs.declared.arena.Arena.{Arena}
-use Rattle.table.specs.declared.arena.Opened.the-variants.{Open}
-use Rattle.table.specs.Job.{Job, jobOf, gameOf, Effect}
+use Rattle.arena.specs.declared.Arena.{Arena}
+use Rattle.arena.specs.declared.Opened.the-variants.{Open}
+use Rattle.arena.specs.Job.{Job, jobOf, gameOf}
+use Rattle.table.specs.Effect.{Effect}
 use Rattle.table.specs.Calls.{clearing}
-use Rattle.table.specs.Arena.{boardIn, opened, Ready}
-use Rattle.table.proofs.Open.{both, shut-effect, open-effect, open-ready, open-game}
+use Rattle.arena.specs.Arena.{boardIn, opened, Ready}
+use Rattle.arena.proofs.Open.{open-ready, open-game}
+use Rattle.table.proofs.Opening.{both, shut-effect, open-effect}
 use Rattle.table.proofs.clear.Statement.{statement}
 use Rattle.table.proofs.clear.Tie as tie
 

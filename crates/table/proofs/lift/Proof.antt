@@ -5,12 +5,13 @@ use Prim.Native.Nat.{ℕ}
 use borrow.Author.Needs.{needs}
 use lib.ListN.{length}
 use Rattle.games.specs.Game.{Game}
-use Rattle.table.specs.declared.arena.Arena.{Arena}
-use Rattle.table.specs.declared.arena.Opened.the-variants.{Open}
-use Rattle.table.specs.Job.{Job, jobOf, gameOf}
-use Rattle.table.specs.Arena.{opened, Ready}
+use Rattle.arena.specs.declared.Arena.{Arena}
+use Rattle.arena.specs.declared.Opened.the-variants.{Open}
+use Rattle.arena.specs.Job.{Job, jobOf, gameOf}
+use Rattle.arena.specs.Arena.{opened, Ready}
 use Rattle.table.specs.Calls.{lifted, lifting}
-use Rattle.table.proofs.Open.{both, shut-effect, open-effect, open-ready, open-game}
+use Rattle.arena.proofs.Open.{open-ready, open-game}
+use Rattle.table.proofs.Opening.{both, shut-effect, open-effect}
 use Rattle.table.proofs.lift.Statement.{statement}
 use Rattle.table.proofs.lift.Tie as tie
 

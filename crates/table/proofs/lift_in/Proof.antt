@@ -8,12 +8,12 @@ use lib.ListN.{length}
 use Rattle.games.specs.Game.{Game}
 use Rattle.automaton.specs.Answer.{valued}
 use Rattle.automaton.specs.First.{first}
-use Rattle.table.specs.Arena.{boardIn, gameIn}
+use Rattle.arena.specs.Arena.{boardIn, gameIn}
 use Rattle.table.specs.Calls.{above, lifted}
 use Rattle.table.proofs.Bounds.{row-most}
 use Rattle.table.proofs.Effects.{lifted-above, lifted-out, lifted-in}
 use Rattle.table.proofs.Keys.{keys-ascend}
-use Rattle.table.proofs.Open.{both}
+use Rattle.table.proofs.Opening.{both}
 use Rattle.table.proofs.lift_in.Statement.{statement}
 use Rattle.table.proofs.lift_in.Tie as tie
 

@@ -5,12 +5,14 @@ use Prim.Native.Nat.{ℕ}
 use borrow.Author.Needs.{needs}
 use lib.ListN.{length}
 use Rattle.games.specs.Game.{Game}
-use Rattle.table.specs.declared.arena.Arena.{Arena}
-use Rattle.table.specs.declared.arena.Opened.the-variants.{Open}
-use Rattle.table.specs.Job.{Job, jobOf, gameOf, Effect}
-use Rattle.table.specs.Arena.{opened, Ready}
+use Rattle.arena.specs.declared.Arena.{Arena}
+use Rattle.arena.specs.declared.Opened.the-variants.{Open}
+use Rattle.arena.specs.Job.{Job, jobOf, gameOf}
+use Rattle.table.specs.Effect.{Effect}
+use Rattle.arena.specs.Arena.{opened, Ready}
 use Rattle.table.specs.Calls.{rested, resting}
-use Rattle.table.proofs.Open.{shut-effect, open-effect, open-ready, open-game}
+use Rattle.arena.proofs.Open.{open-ready, open-game}
+use Rattle.table.proofs.Opening.{shut-effect, open-effect}
 use Rattle.table.proofs.rest.Statement.{statement}
 use Rattle.table.proofs.rest.Tie as tie
 

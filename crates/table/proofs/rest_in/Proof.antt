@@ -8,7 +8,7 @@ use borrow.Author.Tests.{lt-ltb, le-ltb}
 use lib.ListN.{length}
 use Rattle.games.specs.Game.{Game}
 use Rattle.automaton.specs.First.{first}
-use Rattle.table.specs.Arena.{boardIn, gameIn}
+use Rattle.arena.specs.Arena.{boardIn, gameIn}
 use Rattle.table.specs.Calls.{above, restless, restAt, rested}
 use Rattle.table.proofs.Bounds.{row-most}
 use Rattle.table.proofs.Effects.{rested-above, rested-at}

@@ -5,10 +5,10 @@ use native.Mathlib.Omega.{arith}
 use borrow.Author.Needs.{needs}
 use lib.ListN.{length, replicate, length-replicate}
 use Rattle.simulation.proofs.Position.{positions-are}
-use Rattle.table.specs.Arena.{boardIn}
+use Rattle.arena.specs.Arena.{boardIn}
 use Rattle.table.proofs.Bounds.{row-most}
 use Rattle.table.proofs.Keys.{keys-ascend}
-use Rattle.table.proofs.Open.{ready-again}
+use Rattle.arena.proofs.Open.{ready-again}
 use Rattle.table.proofs.settle_in.Statement.{statement}
 use Rattle.table.proofs.settle_in.Tie as tie
 

@@ -7,7 +7,8 @@ use borrow.Author.Tests.{lt-ltb, le-ltb}
 use Rattle.automaton.specs.Board.{Board}
 use Rattle.simulation.specs.Position.{Position, pairs, spoilerAt, duplicatorAt, position, Fits}
 use Rattle.simulation.proofs.Position.{position-fits}
-use Rattle.table.specs.Arena.{boardIn, askedOf}
+use Rattle.arena.specs.Arena.{boardIn}
+use Rattle.table.specs.Asked.{askedOf}
 use Rattle.table.proofs.asked.asked.Statement.{statement}
 use Rattle.table.proofs.asked.asked.Tie as tie
 

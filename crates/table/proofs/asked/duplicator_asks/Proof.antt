@@ -7,7 +7,8 @@ use Rattle.games.specs.Game.{at, ask, lowest}
 use Rattle.simulation.specs.Position.{duplicator}
 use Rattle.simulation.proofs.Limits.{layers-most, positions-most}
 use Rattle.table.specs.declared.steps.Steps.{Steps}
-use Rattle.table.specs.Arena.{boardIn, onward}
+use Rattle.arena.specs.Arena.{boardIn}
+use Rattle.table.specs.Asked.{onward}
 use Rattle.table.specs.Steps.{ahead, Leading}
 use Rattle.table.proofs.Ahead.{duplicator-ahead, duplicator-leading}
 use Rattle.table.proofs.asked.duplicator_asks.Statement.{statement}

@@ -12,8 +12,9 @@ use Rattle.simulation.specs.Position.{spoiler}
 use Rattle.simulation.specs.Rules.{kindOf}
 use Rattle.simulation.proofs.Limits.{layers-most}
 use Rattle.table.specs.declared.asked.Turn.{Turn}
-use Rattle.table.specs.Arena.{boardIn, onward, askedOf}
-use Rattle.table.specs.Turn.{kindIn}
+use Rattle.arena.specs.Arena.{boardIn}
+use Rattle.table.specs.Asked.{onward, askedOf}
+use Rattle.table.specs.Asked.{kindIn}
 use Rattle.table.proofs.asked.spoiler_asks.Statement.{statement}
 use Rattle.table.proofs.asked.spoiler_asks.Tie as tie
 

@@ -10,7 +10,7 @@ use lib.ListN.{length}
 use Rattle.games.specs.Game.{Game, asked, at}
 use Rattle.automaton.specs.First.{first}
 use Rattle.automaton.proofs.First.{first-here, first-passed, first-end}
-use Rattle.table.specs.Arena.{gameIn}
+use Rattle.arena.specs.Arena.{gameIn}
 use Rattle.table.specs.Calls.{restless}
 use Rattle.table.proofs.work.first_restless.Statement.{statement}
 use Rattle.table.proofs.work.first_restless.Tie as tie

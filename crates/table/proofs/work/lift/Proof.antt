@@ -3,7 +3,7 @@ use borrow.Author.Needs.{needs}
 use native.Mathlib.Omega.{arith}
 use Rattle.games.specs.Game.{Game}
 use Rattle.games.proofs.Sweeping.{lift-rose, lift-stayed}
-use Rattle.table.specs.Arena.{gameIn}
+use Rattle.arena.specs.Arena.{gameIn}
 use Rattle.table.proofs.work.lift.Statement.{statement}
 use Rattle.table.proofs.work.lift.Tie as tie
 

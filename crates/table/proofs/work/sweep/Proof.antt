@@ -10,8 +10,8 @@ use Rattle.games.specs.Lift.{lift, lifts, rise, raises}
 use Rattle.games.specs.Settle.{ascending}
 use Rattle.games.proofs.Lift.{lift-entries}
 use Rattle.games.proofs.Sweeping.{lifts-more, raises-more}
-use Rattle.table.specs.Arena.{gameIn}
-use Rattle.table.proofs.Open.{ready-again}
+use Rattle.arena.specs.Arena.{gameIn}
+use Rattle.arena.proofs.Open.{ready-again}
 use Rattle.table.proofs.work.sweep.Statement.{statement}
 use Rattle.table.proofs.work.sweep.Tie as tie
 

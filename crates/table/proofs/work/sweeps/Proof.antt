@@ -13,8 +13,8 @@ use Rattle.games.proofs.Lift.{lifts-entries}
 use Rattle.games.proofs.Raises.{total}
 use Rattle.games.proofs.Sweeping.{Sweeping, sweeping-none, sweeping-more, sweeping-done, sweeping-raised, sweeping-less}
 use Rattle.simulation.proofs.Limits.{positions-most, ceiling-most}
-use Rattle.table.specs.Arena.{boardIn, gameIn}
-use Rattle.table.proofs.Open.{ready-again}
+use Rattle.arena.specs.Arena.{boardIn, gameIn}
+use Rattle.arena.proofs.Open.{ready-again}
 use Rattle.table.proofs.work.sweeps.Statement.{statement}
 use Rattle.table.proofs.work.sweeps.Tie as tie
 

@@ -1,4 +1,4 @@
--- `table::positions` meets its contract: what `limits` and `named` answered decides the refusal.
+-- `arena::positions` meets its contract: what `limits` and `named` answered decides the refusal.
 use mathlib.Core.Path.{_≡_, refl, sym, ap, _∙_}
 use mathlib.Core.List.{List, [], _∷_}
 use borrow.Author.Needs.{needs}
@@ -10,10 +10,10 @@ use Rattle.automaton.proofs.Fault.{faults-passed, faults-stopped}
 use Rattle.automaton.proofs.One.{unless-accepted, unless-refused}
 use Rattle.automaton.proofs.Sound.{limits-line}
 use Rattle.simulation.specs.Position.{positions}
-use Rattle.table.specs.Calls.{modeFault}
-use Rattle.table.specs.Job.{modeOf}
-use Rattle.table.proofs.positions.Statement.{statement}
-use Rattle.table.proofs.positions.Tie as tie
+use Rattle.arena.specs.Refusals.{modeFault}
+use Rattle.arena.specs.Job.{modeOf}
+use Rattle.arena.proofs.positions.Statement.{statement}
+use Rattle.arena.proofs.positions.Tie as tie
 
 -- the lines of refusals 1 and 2, and the line after them
 abbrev limit-lines : tie.Start → List Fault

@@ -1,18 +1,18 @@
--- `table::arena::for_table` meets its contract: P is at most 139,264, so the product does not wrap.
+-- `arena::for_table` meets its contract: P is at most 139,264, so the product does not wrap.
 use mathlib.Core.Path.{_≡_, sym, ap, _∙_}
 use Prim.Native.Nat.{_+_, _*_, _≤_}
 use native.Mathlib.Omega.{arith}
 use borrow.Author.Needs.{needs}
 use Rattle.automaton.specs.Answer.{none}
 use Rattle.simulation.proofs.Limits.{positions-most}
-use Rattle.table.specs.declared.arena.Arena.{Arena}
-use Rattle.table.specs.declared.arena.Opened.the-variants.{Open}
-use Rattle.table.specs.Job.{Job, jobOf, modeOf, gameOf}
-use Rattle.table.specs.Calls.{jobFault}
-use Rattle.table.specs.Arena.{entered}
-use Rattle.table.proofs.Open.{job-line, enter-open, opened-shut, opened-length, opened-open}
-use Rattle.table.proofs.arena.for_table.Statement.{statement}
-use Rattle.table.proofs.arena.for_table.Tie as tie
+use Rattle.arena.specs.declared.Arena.{Arena}
+use Rattle.arena.specs.declared.Opened.the-variants.{Open}
+use Rattle.arena.specs.Job.{Job, jobOf, modeOf, gameOf}
+use Rattle.arena.specs.Refusals.{jobFault}
+use Rattle.arena.specs.Arena.{entered}
+use Rattle.arena.proofs.Open.{job-line, enter-open, opened-shut, opened-length, opened-open}
+use Rattle.arena.proofs.for_table.Statement.{statement}
+use Rattle.arena.proofs.for_table.Tie as tie
 
 abbrev begun : tie.After-enter → tie.Start
 begun c = c .before .before .before

@@ -1,4 +1,4 @@
--- What a call is given beside the table, and what it leaves: an answer and a table.
+-- What a call is given beside the table: an automaton and a mode, and so a game.
 use mathlib.Core.Bool.{Bool, true, false}
 use mathlib.Core.List.{List}
 use Prim.Native.Nat.{ℕ}
@@ -8,7 +8,6 @@ use Rattle.automaton.specs.declared.Mode.{Mode}
 use Rattle.automaton.specs.declared.Mode.the-variants.{Ordinary}
 use Rattle.automaton.specs.declared.Named.{Named}
 use Rattle.automaton.specs.declared.Named.the-variants.{Known, Unknown}
-use Rattle.automaton.specs.Answer.{Answer, refused, Fault, none, fault}
 use Rattle.automaton.specs.Board.{Board, boardOf}
 use Rattle.automaton.specs.Limits.{nameOf}
 use Rattle.simulation.specs.Rules.{game}
@@ -37,13 +36,3 @@ modeOf number = modeIn (nameOf number)
 -- the game that a job is about
 abbrev pub gameOf : Job → Game
 gameOf j = game (j .board) (modeOf (j .mode))
-
--- what a call answers, and the table after it
-pub record Effect : Type 0 where
-  pub answer : Answer
-  pub table : List ℕ
-
--- "Every refused call returns its number, a place and values 0, and writes to no lent buffer."
-abbrev pub does : Fault → (table : List ℕ) → Effect → Effect
-does none t e = e
-does (fault r) t e = record { answer = refused r; table = t }

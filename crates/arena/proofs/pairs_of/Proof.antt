@@ -1,4 +1,4 @@
--- `table::arena::pairs_of` meets its contract: at most 64 states, so no product wraps.
+-- `arena::pairs_of` meets its contract: at most 64 states, so no product wraps.
 use mathlib.Core.Path.{_≡_, ap}
 use mathlib.Core.List.{[]}
 use Prim.Native.Nat.{ℕ, _*_}
@@ -8,8 +8,8 @@ use borrow.Author.Needs.{needs}
 use Rattle.automaton.specs.Board.{boardOf}
 use Rattle.simulation.specs.Position.{pairs}
 use Rattle.simulation.proofs.Limits.{pairs-most}
-use Rattle.table.proofs.arena.pairs_of.Statement.{statement}
-use Rattle.table.proofs.arena.pairs_of.Tie as tie
+use Rattle.arena.proofs.pairs_of.Statement.{statement}
+use Rattle.arena.proofs.pairs_of.Tie as tie
 
 layers-of-requires : tie.Need-layers-of-requires
 layers-of-requires c κs = search needs

@@ -1,12 +1,12 @@
--- `table::ceiling` meets its contract: T stands in the arena.
+-- `arena::ceiling` meets its contract: T stands in the arena.
 use mathlib.Core.Path.{sym, ap, _∙_}
 use borrow.Author.Needs.{needs}
 use Rattle.automaton.specs.Answer.{valued, unless}
-use Rattle.table.specs.declared.arena.Arena.{Arena}
-use Rattle.table.specs.Job.{Job, jobOf, gameOf}
-use Rattle.table.proofs.Open.{enter-shut, enter-open}
-use Rattle.table.proofs.ceiling.Statement.{statement}
-use Rattle.table.proofs.ceiling.Tie as tie
+use Rattle.arena.specs.declared.Arena.{Arena}
+use Rattle.arena.specs.Job.{Job, jobOf, gameOf}
+use Rattle.arena.proofs.Open.{enter-shut, enter-open}
+use Rattle.arena.proofs.ceiling.Statement.{statement}
+use Rattle.arena.proofs.ceiling.Tie as tie
 
 abbrev job : tie.After-enter → Job
 job c = let s = c .before .before .before in jobOf (s .args .a) (s .args .marks .now) (s .args .moves .now) (s .args .mode)

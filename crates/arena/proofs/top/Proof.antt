@@ -1,4 +1,4 @@
--- `table::arena::top` meets its contract: f is at most n and n at most 64, so nothing wraps and T fits four bytes.
+-- `arena::top` meets its contract: f is at most n and n at most 64, so nothing wraps and T fits four bytes.
 use mathlib.Core.Path.{_≡_, ap}
 use mathlib.Core.List.{[]}
 use Prim.Native.Nat.{ℕ, _+_, _*_, _-_, _≤_}
@@ -8,8 +8,8 @@ use Rattle.automaton.specs.Board.{boardOf}
 use Rattle.simulation.specs.Rules.{ones}
 use Rattle.simulation.proofs.Counting.{ones-most}
 use Rattle.simulation.proofs.Limits.{delayed-most, fair-most}
-use Rattle.table.proofs.arena.top.Statement.{statement}
-use Rattle.table.proofs.arena.top.Tie as tie
+use Rattle.arena.proofs.top.Statement.{statement}
+use Rattle.arena.proofs.top.Tie as tie
 
 abbrev states : tie.After-ones → ℕ
 states c = c .before .before .args .a .states

@@ -16,19 +16,19 @@ use Rattle.automaton.specs.declared.Named.{Named}
 use Rattle.automaton.specs.declared.Named.the-variants.{Known, Unknown}
 use Rattle.automaton.specs.declared.Refusal.{Refusal}
 use Rattle.automaton.specs.declared.Refusal.the-variants.{ModeNumber, TableLength}
-use Rattle.automaton.specs.Answer.{refused, Fault, none, fault}
+use Rattle.automaton.specs.Answer.{Fault, none, fault}
 use Rattle.automaton.specs.Board.{boardOf}
 use Rattle.automaton.specs.Check.{automatonFault}
 use Rattle.automaton.specs.Limits.{nameOf}
 use Rattle.automaton.proofs.Fault.{Line, fails-line, _then_, end, table-line}
 use Rattle.automaton.proofs.Sound.{automaton-line}
 use Rattle.simulation.specs.Rules.{ceiling}
-use Rattle.table.specs.declared.arena.Arena.{Arena}
-use Rattle.table.specs.declared.arena.Opened.{Opened}
-use Rattle.table.specs.declared.arena.Opened.the-variants.{Open, Shut}
-use Rattle.table.specs.Job.{Job, isUnknown, modeIn, modeOf, gameOf, Effect}
-use Rattle.table.specs.Calls.{modeFault, jobFault, lengthFault, openFault, Sound, Fitting, opening}
-use Rattle.table.specs.Arena.{arenaOf, gameIn, Ready, openedBy, entered, opened}
+use Rattle.arena.specs.declared.Arena.{Arena}
+use Rattle.arena.specs.declared.Opened.{Opened}
+use Rattle.arena.specs.declared.Opened.the-variants.{Open, Shut}
+use Rattle.arena.specs.Job.{Job, isUnknown, modeIn, modeOf, gameOf}
+use Rattle.arena.specs.Refusals.{modeFault, jobFault, lengthFault, openFault, Sound, Fitting}
+use Rattle.arena.specs.Arena.{arenaOf, gameIn, Ready, openedBy, entered, opened}
 
 -- ---- reading an opened arena back
 
@@ -121,24 +121,20 @@ module _ (j : Job) (entries : ℕ) where
   unfolding opened
   opened-open g e n = simp (enter-open j g e .0, eq-eqb entries (gameOf j .P) n, enter-open j g e .1)
 
--- an effect is its answer and its table
-pub both : {d e : Effect} → d ≡ e → (d .answer ≡ e .answer) × (d .table ≡ e .table)
-both p = (ap (λ (x : Effect). x .answer) p, ap (λ (x : Effect). x .table) p)
-
--- ---- what a call does that opened an arena, or did not
+-- ---- what an opened arena is
 
 module _ (j : Job) (t : List ℕ) where
-  pub shut-effect : (r : Refusal) → opened j (length t) ≡ Shut r → (e : Effect) → opening j t e ≡ record { answer = refused r; table = t }
+  pub shut-fault : (r : Refusal) → opened j (length t) ≡ Shut r → openFault j (length t) ≡ fault r
   unfolding opened
-  shut-effect r o e = simp (by-shut (openFault j (length t)) _ r o)
+  shut-fault r o = by-shut (openFault j (length t)) _ r o
 
   module _ (g : Arena) (o : opened j (length t) ≡ Open g) where
     open-is : (openFault j (length t) ≡ none) × (arenaOf (j .board) (modeOf (j .mode)) ≡ g)
     unfolding opened
     open-is = by-open (openFault j (length t)) _ g o
 
-    pub open-effect : (e : Effect) → opening j t e ≡ e
-    open-effect e = simp (open-is .0)
+    pub open-fault : openFault j (length t) ≡ none
+    open-fault = open-is .0
 
     pub open-game : gameOf j ≡ gameIn g (j .board .marks) (j .board .moves)
     open-game = ap (λ h. gameIn h (j .board .marks) (j .board .moves)) (open-is .1)
@@ -147,7 +143,7 @@ module _ (j : Job) (t : List ℕ) where
     open-ready = subst (λ h. Ready h (j .board .marks) (j .board .moves) t) (open-is .1) ready
       where
         holds : Fitting j t
-        holds = open-line j t .0 (open-is .0)
+        holds = open-line j t .0 open-fault
 
         ready : Ready (arenaOf (j .board) (modeOf (j .mode))) (j .board .marks) (j .board .moves) t
         ready = record { formed = holds .0 .0; paired = refl; topped = refl; entries = holds .1 }

@@ -1,4 +1,5 @@
-// The numbers of one automaton's game in one mode, and the refusals 1 to 9 with which the calls on a table begin.
+// The numbers of one automaton's game in one mode: P, T and the arena, in which the calls on a table work.
+// Refusals 1 to 9, which those calls share, are decided here.
 ghost use mathlib.Core.Path.{_≡_};
 ghost use mathlib.Core.List.{List, []};
 ghost use Prim.Native.Nat.{_≤_};
@@ -9,8 +10,10 @@ ghost use Rattle.automaton.specs.Board.{boardOf, Formed};
 ghost use Rattle.automaton.specs.Limits.{mostLetters, mostStates};
 ghost use Rattle.simulation.specs.Position.{layers, pairs, positions};
 ghost use Rattle.simulation.specs.Rules.{bit, ceiling};
-ghost use Rattle.table.specs.Arena.{arenaOf, entered, opened};
-ghost use Rattle.table.specs.Job.{jobOf};
+ghost use Rattle.arena.specs.Answers.{ofCounted};
+ghost use Rattle.arena.specs.Arena.{arenaOf, entered, opened};
+ghost use Rattle.arena.specs.Job.{jobOf};
+ghost use Rattle.arena.specs.Refusals.{sizing, topping};
 use automaton::Automaton;
 use automaton::Checked;
 use automaton::Mode;
@@ -32,6 +35,39 @@ pub enum Opened {
     Shut(Refusal),
 }
 
+// What `positions` and `ceiling` answer.
+pub enum Counted {
+    Number(usize),
+    Refused(Refusal),
+}
+
+// P, the number of entries of a table for this automaton and mode. Refusals 1, 2 and 8.
+pub fn positions(a: Automaton, mode: usize) -> Counted
+    ensures { λ r. ⌜ ofCounted r ≡ sizing a mode ⌝ }
+{
+    let limited = automaton::limits(a);
+    match limited {
+        Checked::Refused(refusal) => return Counted::Refused(refusal),
+        Checked::Sound => {}
+    }
+    let named = Mode::named(mode);
+    match named {
+        Named::Unknown => Counted::Refused(Refusal::ModeNumber),
+        Named::Known(known) => Counted::Number(size(a, known)),
+    }
+}
+
+// T, the largest entry allowed, which means lost. Refusals 1 to 8.
+pub fn ceiling(a: Automaton, marks: &[u8], moves: &[u8], mode: usize) -> Counted
+    ensures { λ r. ⌜ ofCounted r ≡ topping (jobOf a (now (marks .entry)) (now (moves .entry)) mode) ⌝ }
+{
+    let opened = enter(a, marks, moves, mode);
+    match opened {
+        Opened::Shut(refusal) => Counted::Refused(refusal),
+        Opened::Open(g) => Counted::Number(g.top as usize),
+    }
+}
+
 // How many values b has.
 fn layers_of(mode: Mode) -> usize
     ensures { λ r. ⌜ r ≡ layers mode ⌝ }
@@ -45,7 +81,7 @@ fn layers_of(mode: Mode) -> usize
 }
 
 // The number of Spoiler's positions.
-pub fn pairs_of(a: Automaton, mode: Mode) -> usize
+fn pairs_of(a: Automaton, mode: Mode) -> usize
     requires { ⌜ a .states ≤ mostStates ⌝ }
     ensures { λ r. ⌜ r ≡ pairs (boardOf a [] []) mode ⌝ }
 {
@@ -54,7 +90,7 @@ pub fn pairs_of(a: Automaton, mode: Mode) -> usize
 }
 
 // P, the number of positions.
-pub fn size(a: Automaton, mode: Mode) -> usize
+fn size(a: Automaton, mode: Mode) -> usize
     requires { ⌜ a .states ≤ mostStates ⌝ }
     requires { ⌜ a .letters ≤ mostLetters ⌝ }
     ensures { λ r. ⌜ r ≡ positions (boardOf a [] []) mode ⌝ }
@@ -63,7 +99,7 @@ pub fn size(a: Automaton, mode: Mode) -> usize
 }
 
 // The number of accepting states.
-pub fn ones(marks: &[u8]) -> usize
+fn ones(marks: &[u8]) -> usize
     ensures { λ r. ⌜ r ≡ count (λ q. bit (eqb (getD (now (marks .entry)) q 0) 1)) (length (now (marks .entry))) ⌝ }
 {
     let mut ones = 0;
@@ -78,7 +114,7 @@ pub fn ones(marks: &[u8]) -> usize
 }
 
 // T, the largest entry allowed.
-pub fn top(a: Automaton, marks: &[u8], mode: Mode) -> u32
+fn top(a: Automaton, marks: &[u8], mode: Mode) -> u32
     requires { ⌜ a .states ≤ mostStates ⌝ }
     requires { ⌜ length (now marks) ≡ a .states ⌝ }
     ensures { λ r. ⌜ r ≡ ceiling (boardOf a (now (marks .entry)) []) mode ⌝ }

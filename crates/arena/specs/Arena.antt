@@ -1,19 +1,19 @@
--- What the functions below the calls promise each other: the arena of a job, and that it fits the lent bytes.
+-- The arena of a job, in which the calls on a table work, and that it fits the lent bytes.
 use mathlib.Core.Path.{_≡_}
-use mathlib.Core.List.{List, map}
+use mathlib.Core.List.{List}
 use Prim.Native.Nat.{ℕ}
 use lib.ListN.{length}
-use Rattle.games.specs.Game.{Game, ask, at}
+use Rattle.games.specs.Game.{Game}
 use Rattle.automaton.specs.declared.Mode.{Mode}
 use Rattle.automaton.specs.Answer.{Fault, none, fault}
 use Rattle.automaton.specs.Board.{Board, Formed}
-use Rattle.simulation.specs.Position.{Position, pairs, positions, number}
-use Rattle.simulation.specs.Rules.{steps, kindOf, ceiling, game}
-use Rattle.table.specs.declared.arena.Arena.{Arena}
-use Rattle.table.specs.declared.arena.Opened.{Opened}
-use Rattle.table.specs.declared.arena.Opened.the-variants.{Open, Shut}
-use Rattle.table.specs.Job.{Job, modeOf}
-use Rattle.table.specs.Calls.{jobFault, openFault}
+use Rattle.simulation.specs.Position.{pairs, positions}
+use Rattle.simulation.specs.Rules.{ceiling, game}
+use Rattle.arena.specs.declared.Arena.{Arena}
+use Rattle.arena.specs.declared.Opened.{Opened}
+use Rattle.arena.specs.declared.Opened.the-variants.{Open, Shut}
+use Rattle.arena.specs.Job.{Job, modeOf}
+use Rattle.arena.specs.Refusals.{jobFault, openFault}
 
 abbrev pub arenaOf : Board → Mode → Arena
 arenaOf B m = record { states = B .n; letters = B .k; mode = m; pairs = pairs B m; top = ceiling B m }
@@ -42,10 +42,3 @@ entered j = openedBy (jobFault j) (arenaOf (j .board) (modeOf (j .mode)))
 
 unfoldable pub opened : Job → (entries : ℕ) → Opened
 opened j entries = openedBy (openFault j entries) (arenaOf (j .board) (modeOf (j .mode)))
-
--- the numbers of the positions one step on, and what a position asks for
-abbrev pub onward : Board → Mode → Position → List ℕ
-onward B m p = map (number B m) (steps B m p)
-
-abbrev pub askedOf : Board → Mode → (table : List ℕ) → Position → ℕ
-askedOf B m t p = ask (kindOf B m p) (ceiling B m) (at t) (onward B m p)

@@ -1,4 +1,4 @@
--- `table::arena::enter` meets its contract: what `check` and `named` answered decides the refusal, and the arena has the game's numbers.
+-- `arena::enter` meets its contract: what `check` and `named` answered decides the refusal, and the arena has the game's numbers.
 use mathlib.Core.Path.{_≡_, refl, sym, ap, _∙_}
 use mathlib.Core.List.{[]}
 use Prim.Native.Nat.{ℕ}
@@ -9,12 +9,12 @@ use Rattle.automaton.specs.Board.{Board, boardOf, Formed}
 use Rattle.automaton.specs.Check.{automatonFault, checked, answerOf}
 use Rattle.automaton.proofs.One.{unless-accepted, unless-refused}
 use Rattle.automaton.proofs.Sound.{automaton-line}
-use Rattle.table.specs.declared.arena.Opened.the-variants.{Open}
-use Rattle.table.specs.Job.{Job, jobOf}
-use Rattle.table.specs.Arena.{arenaOf}
-use Rattle.table.proofs.Open.{ceiling-moves, entered-refused, entered-unknown, entered-known}
-use Rattle.table.proofs.arena.enter.Statement.{statement}
-use Rattle.table.proofs.arena.enter.Tie as tie
+use Rattle.arena.specs.declared.Opened.the-variants.{Open}
+use Rattle.arena.specs.Job.{Job, jobOf}
+use Rattle.arena.specs.Arena.{arenaOf}
+use Rattle.arena.proofs.Open.{ceiling-moves, entered-refused, entered-unknown, entered-known}
+use Rattle.arena.proofs.enter.Statement.{statement}
+use Rattle.arena.proofs.enter.Tie as tie
 
 abbrev begun : tie.After-check → tie.Start
 begun c = c .before .before .before

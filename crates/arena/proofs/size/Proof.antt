@@ -1,4 +1,4 @@
--- `table::arena::size` meets its contract: P is at most 139,264, so the product does not wrap.
+-- `arena::size` meets its contract: P is at most 139,264, so the product does not wrap.
 use mathlib.Core.Path.{_≡_, ap}
 use mathlib.Core.List.{[]}
 use Prim.Native.Nat.{ℕ, _+_, _*_}
@@ -7,8 +7,8 @@ use borrow.Author.Needs.{needs}
 use Rattle.automaton.specs.Board.{boardOf}
 use Rattle.simulation.specs.Position.{positions}
 use Rattle.simulation.proofs.Limits.{size-most}
-use Rattle.table.proofs.arena.size.Statement.{statement}
-use Rattle.table.proofs.arena.size.Tie as tie
+use Rattle.arena.proofs.size.Statement.{statement}
+use Rattle.arena.proofs.size.Tie as tie
 
 pairs-of-requires : tie.Need-pairs-of-requires
 pairs-of-requires c κs = search needs

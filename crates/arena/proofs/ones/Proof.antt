@@ -1,4 +1,4 @@
--- `table::arena::ones` meets its contract: q states have been looked at, and `ones` of them accept.
+-- `arena::ones` meets its contract: q states have been looked at, and `ones` of them accept.
 use mathlib.Core.Path.{_≡_, ap}
 use mathlib.Core.Logic.{⊎-elim}
 use Prim.Native.Nat.{_-_, _≤_}
@@ -10,8 +10,8 @@ use lib.Dec.{eqb}
 use lib.ListN.{length, getD}
 use Rattle.games.specs.Play.{count}
 use Rattle.simulation.specs.Rules.{bit}
-use Rattle.table.proofs.arena.ones.Statement.{statement}
-use Rattle.table.proofs.arena.ones.Tie as tie
+use Rattle.arena.proofs.ones.Statement.{statement}
+use Rattle.arena.proofs.ones.Tie as tie
 
 abbrev Inv-loop : tie.InvT-loop
 Inv-loop marks ones₀ q₀ ones q = (q ≤ length marks) × (ones ≤ q) × (ones ≡ count (λ u. bit (eqb (getD marks u 0) 1)) q)

@@ -1,0 +1,3 @@
+pub mod Open
+pub mod Accepted
+pub mod One

@@ -1,0 +1,54 @@
+-- The refusals 1 to 9 that the calls on a table share, and the two numbers of a table: P and T.
+use mathlib.Core.Path.{_≡_}
+use mathlib.Core.Bool.{not}
+use mathlib.Core.List.{List, [], _∷_}
+use Prim.Native.Nat.{ℕ, _<_}
+use lib.Dec.{eqb}
+use lib.ListN.{length}
+use Rattle.games.specs.Game.{Game}
+use Rattle.automaton.specs.declared.Automaton.{Automaton}
+use Rattle.automaton.specs.declared.Named.the-variants.{Known}
+use Rattle.automaton.specs.declared.Refusal.the-variants.{ModeNumber, TableLength}
+use Rattle.automaton.specs.Answer.{Answer, valued, Fault, fails, firstFault, unless}
+use Rattle.automaton.specs.Board.{boardOf, Formed}
+use Rattle.automaton.specs.Check.{statesFault, lettersFault, automatonFault}
+use Rattle.automaton.specs.Limits.{nameOf}
+use Rattle.simulation.specs.Position.{positions}
+use Rattle.arena.specs.Job.{Job, isUnknown, modeOf, gameOf}
+
+-- 8: "mode above 3"
+abbrev pub modeFault : (mode : ℕ) → Fault
+modeFault mode = fails (isUnknown (nameOf mode)) ModeNumber
+
+-- 1 to 8
+abbrev pub jobFault : Job → Fault
+jobFault j = firstFault (automatonFault (j .board) (j .start) ∷ modeFault (j .mode) ∷ [])
+
+-- 9: "table length not P"
+abbrev pub lengthFault : Game → (entries : ℕ) → Fault
+lengthFault g entries = fails (not (eqb entries (g .P))) TableLength
+
+-- 1 to 9
+abbrev pub openFault : Job → (entries : ℕ) → Fault
+openFault j entries = firstFault (jobFault j ∷ lengthFault (gameOf j) entries ∷ [])
+
+-- ---- what a call must be given, for none of them to apply
+
+-- 1 to 8: a well-formed automaton whose start is one of its states, and the number of a mode
+abbrev pub Sound : Job → Type 0
+Sound j = Formed (j .board) × (j .start < j .board .n) × (nameOf (j .mode) ≡ Known (modeOf (j .mode)))
+
+-- 1 to 9: and a table of P entries
+abbrev pub Fitting : Job → (table : List ℕ) → Type 0
+Fitting j t = Sound j × (length t ≡ gameOf j .P)
+
+-- ---- the two numbers of a table
+
+-- P, after refusals 1, 2 and 8
+abbrev pub sizing : Automaton → (mode : ℕ) → Answer
+sizing a mode =
+    unless (firstFault (statesFault (a .states) ∷ lettersFault (a .letters) ∷ modeFault mode ∷ [])) (valued (positions (boardOf a [] []) (modeOf mode)))
+
+-- T, after refusals 1 to 8
+abbrev pub topping : Job → Answer
+topping j = unless (jobFault j) (valued (gameOf j .T))
