@@ -66,7 +66,7 @@ returns : tie.Need-returns
 returns c =
     let e = c .before .before .before in
     let s = begun (entry e) in
-    opened-length (job s) (s .args .entries) (faultless e) (λ d. c .if1 .taken (d ∙ sym (product e)))
+    opened-length (job s) (s .args .entries) (faultless e) (λ d. omega (arith, c .if1 .taken, product e))
 
 returns-2 : tie.Need-returns-2
 returns-2 c =
@@ -77,7 +77,7 @@ returns-3 : tie.Need-returns-3
 returns-3 c =
     let e = c .before .before .before in
     let s = begun (entry e) in
-    opened-open (job s) (s .args .entries) (arena e) (entered-open e) (c .if1 .left ∙ product e)
+    opened-open (job s) (s .args .entries) (arena e) (entered-open e) (omega (arith, c .if1 .left, product e))
 
 pub for-table-spec : {M : Type 1} → statement M
 for-table-spec =

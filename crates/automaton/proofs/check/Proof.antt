@@ -1,10 +1,11 @@
 -- `automaton::check` meets its contract: past each test the answer is that of the lines of the table that are left.
 use mathlib.Core.Path.{_≡_, refl, sym, ap, _∙_}
 use mathlib.Core.List.{List, [], _∷_}
-use Prim.Native.Nat.{ℕ}
+use Prim.Native.Nat.{ℕ, _/_, _<_}
+use native.Mathlib.Omega.{arith}
 use borrow.Author.Needs.{needs}
 use borrow.Author.Tests.{eq-eqb, ne-eqb, lt-ltb, le-ltb, le-leb, lt-leb}
-use lib.ListN.{drop}
+use lib.ListN.{length, drop}
 use Rattle.automaton.specs.Answer.{Answer, accepted, Fault, firstFault, unless}
 use Rattle.automaton.specs.Board.{boardOf}
 use Rattle.automaton.specs.Check.{high, statesFault, lettersFault, faults, limited, checked, answerOf}
@@ -67,7 +68,10 @@ past-marks c =
     past-limits (at .before) ∙ simp (eq-eqb _ _ (at .if1 .left), high-at (c .before), le-ltb _ _ (c .if2 .left))
 
 past-start : (c : tie.Else3) → asked (begun-marks (c .before)) ≡ after 4 (begun-marks (c .before))
-past-start c = past-marks (c .before) ∙ simp (lt-leb _ _ (c .if3 .left))
+past-start c =
+    let a = begun-marks (c .before) .args .a in
+    let below : a .start < a .states = omega (arith, c .if3 .left) in
+    past-marks (c .before) ∙ simp (lt-leb (a .states) (a .start) below)
 
 past-bytes : (c : tie.Else4) → asked (begun-bytes c) ≡ after 5 (begun-bytes c)
 past-bytes c = past-start (c .before) ∙ simp (eq-eqb _ _ (c .if4 .left))
@@ -118,7 +122,10 @@ first-unsorted-requires : tie.Need-first-unsorted-requires
 first-unsorted-requires c κs = search needs
 
 returns-7 : tie.Need-returns-7
-returns-7 c = sym (past-outside (c .before .before) ∙ simp (sym (c .before .first-unsorted .ensures), lt-ltb _ _ (c .if6 .taken)))
+returns-7 c =
+    let count = length (begun-bytes (c .before .before .before .before) .args .moves .now) / 3 in
+    let early : c .before .first-unsorted .result < count = omega (arith, c .if6 .taken) in
+    sym (past-outside (c .before .before) ∙ simp (sym (c .before .first-unsorted .ensures), lt-ltb _ _ early))
 
 returns-8 : tie.Need-returns-8
 returns-8 c = sym (past-outside (c .before .before) ∙ simp (sym (c .before .first-unsorted .ensures), le-ltb _ _ (c .if6 .left)))
