@@ -1,17 +1,17 @@
 // The numbers of one automaton's game in one mode: P, T and the arena, in which the calls on a table work.
 // Refusals 1 to 9, which those calls share, are decided here.
 ghost use mathlib.Core.Path.{_≡_};
-ghost use mathlib.Core.List.{List, []};
+ghost use mathlib.Core.List.{[]};
 ghost use Prim.Native.Nat.{_≤_};
 ghost use lib.Dec.{eqb};
 ghost use lib.ListN.{length, getD};
 ghost use Rattle.games.specs.Play.{count};
-ghost use Rattle.automaton.specs.Board.{boardOf, Formed};
+ghost use Rattle.automaton.specs.Board.{boardOf};
 ghost use Rattle.automaton.specs.Limits.{mostLetters, mostStates};
 ghost use Rattle.simulation.specs.Position.{layers, pairs, positions};
 ghost use Rattle.simulation.specs.Rules.{bit, ceiling};
 ghost use Rattle.arena.specs.Answers.{ofCounted};
-ghost use Rattle.arena.specs.Arena.{arenaOf, entered, opened};
+ghost use Rattle.arena.specs.Arena.{entered, opened};
 ghost use Rattle.arena.specs.Job.{jobOf};
 ghost use Rattle.arena.specs.Refusals.{sizing, topping};
 use automaton::Automaton;
@@ -130,7 +130,7 @@ fn top(a: Automaton, marks: &[u8], mode: Mode) -> u32
 }
 
 // The arena of a checked automaton. Refusals 1 to 8.
-pub fn enter(a: Automaton, marks: &[u8], moves: &[u8], mode: usize) -> Opened
+fn enter(a: Automaton, marks: &[u8], moves: &[u8], mode: usize) -> Opened
     ensures { λ r. ⌜ r ≡ entered (jobOf a (now (marks .entry)) (now (moves .entry)) mode) ⌝ }
 {
     let checked = automaton::check(a, marks, moves);
@@ -159,8 +159,8 @@ pub fn for_table(a: Automaton, marks: &[u8], moves: &[u8], mode: usize, entries:
     match entered {
         Opened::Shut(refusal) => Opened::Shut(refusal),
         Opened::Open(g) => {
-            let pairs = g.pairs;
-            if entries != pairs * (1 + a.letters) {
+            let known = g.mode;
+            if entries != size(a, known) {
                 return Opened::Shut(Refusal::TableLength);
             }
             Opened::Open(g)

@@ -15,9 +15,11 @@ use borrow.Author.Count.{below-more}
 use borrow.Author.Tests.{leb-true, leb-false, eqb-true, eq-eqb}
 use Rattle.automaton.specs.Board.{Board, from, letter, Above, Formed}
 use Rattle.automaton.specs.First.{first}
+use Rattle.automaton.specs.Limits.{mostStates, mostLetters}
 use Rattle.automaton.proofs.First.{Lowest, first-lowest}
 use Rattle.simulation.proofs.Ranges.{Leaving, Answering}
 use Rattle.table.specs.Index.{key, Ascending, Indexed}
+use Rattle.table.proofs.Bounds.{row-within, row-most}
 
 -- ---- the keys
 
@@ -28,6 +30,10 @@ key-step k x y z x′ y′ z′ l (inr (e, inr (d, h))) = rw (e, d) (le-refl (x�
 
 pub keys-ascend : (B : Board) → Formed B → Ascending (B .k) (B .moves)
 keys-ascend B F i h = key-step (B .k) _ _ _ _ _ _ (F .inside i (omega arith) .1) (F .order i (omega arith))
+
+-- a well-formed board is all that the index asks for: 1,025 places suffice
+pub indexable : (B : Board) → Formed B → ((B .n ≤ mostStates) × (B .k ≤ mostLetters)) × ((B .n * B .k < 1025) × Ascending (B .k) (B .moves))
+indexable B F = ((F .few, F .few-letters), (omega (arith, row-most (B .n) (B .k) (F .few) (F .few-letters) (B .n) (le-refl (B .n))), keys-ascend B F))
 
 -- of any two moves, the later has no lesser key
 pub key-mono : (k : ℕ) (ms : List ℕ) → Ascending k ms → (i j : ℕ) → i ≤ j → j * 3 + 2 < length ms → key k ms i ≤ key k ms j
@@ -104,7 +110,7 @@ module _ (n k : ℕ) (ms begins : List ℕ) (I : Indexed n k ms begins) where
 module _ (B : Board) (F : Formed B) (begins : List ℕ) (I : Indexed (B .n) (B .k) (B .moves) begins) where
   module _ (q : ℕ) (h : q < B .n) where
     last : q * B .k + B .k ≤ B .n * B .k
-    last = omega (arith, mul-le-mul-right (B .k) h, suc-mul q (B .k))
+    last = row-within (B .n) (B .k) q h
 
     pub leaving-inside : getD begins (q * B .k + B .k) 0 * 3 ≤ length (B .moves)
     leaving-inside = I .inside (q * B .k + B .k) last

@@ -1,10 +1,11 @@
 pub mod Parts
+pub mod Bounds
 pub mod Keys
 pub mod Ahead
-pub mod Bounds
 pub mod Stretch
 pub mod Opening
 pub mod Effects
 pub mod Accepted
 pub mod AtRest
 pub mod One
+pub mod Cases

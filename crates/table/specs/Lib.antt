@@ -4,3 +4,4 @@ pub mod Answers
 pub mod Index
 pub mod Steps
 pub mod Asked
+pub mod Cases

@@ -1,8 +1,8 @@
 // The value that a position asks for: whose turn it is, which steps it has, and what follows from their entries.
 ghost use mathlib.Core.Path.{_≡_};
-ghost use Prim.Native.Nat.{_+_, _*_, _≤_, _<_};
+ghost use Prim.Native.Nat.{_+_, _<_};
 ghost use lib.ListN.{length};
-ghost use Rattle.games.specs.Game.{asked, at, highest, lowest};
+ghost use Rattle.games.specs.Game.{asked, at, highest};
 ghost use Rattle.simulation.specs.Position.{duplicator, layers, spoiler};
 ghost use Rattle.simulation.specs.Rules.{turn};
 ghost use Rattle.arena.specs.Arena.{boardIn, gameIn, Ready};

@@ -7,7 +7,6 @@ mod steps; // steps.rt: the positions one step on
 mod work; // work.rt: filling, lifting and sweeping a table
 
 ghost use mathlib.Core.Path.{_≡_};
-ghost use lib.ListN.{length};
 ghost use Rattle.games.specs.Settle.{settle};
 ghost use Rattle.arena.specs.Arena.{gameIn, Ready};
 ghost use Rattle.arena.specs.Job.{jobOf};

@@ -1,10 +1,8 @@
 // Filling, lifting and sweeping a table whose arena is known.
 ghost use mathlib.Core.Path.{_≡_};
 ghost use Prim.Native.Nat.{_≤_, _<_};
-ghost use lib.Dec.{ltb};
 ghost use lib.ListN.{length, replicate};
 ghost use Rattle.automaton.specs.First.{first};
-ghost use Rattle.games.specs.Game.{at};
 ghost use Rattle.games.specs.Lift.{cleared, lift, lifts, raises, rise};
 ghost use Rattle.games.specs.Settle.{settle, sweep};
 ghost use Rattle.arena.specs.Arena.{gameIn, Ready};

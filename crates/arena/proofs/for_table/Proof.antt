@@ -1,13 +1,12 @@
--- `arena::for_table` meets its contract: P is at most 139,264, so the product does not wrap.
+-- `arena::for_table` meets its contract: the length is held against P.
 use mathlib.Core.Path.{_≡_, sym, ap, _∙_}
-use Prim.Native.Nat.{_+_, _*_, _≤_}
 use native.Mathlib.Omega.{arith}
 use borrow.Author.Needs.{needs}
 use Rattle.automaton.specs.Answer.{none}
-use Rattle.simulation.proofs.Limits.{positions-most}
+use Rattle.simulation.specs.Position.{positions}
 use Rattle.arena.specs.declared.Arena.{Arena}
 use Rattle.arena.specs.declared.Opened.the-variants.{Open}
-use Rattle.arena.specs.Job.{Job, jobOf, modeOf, gameOf}
+use Rattle.arena.specs.Job.{Job, jobOf, gameOf}
 use Rattle.arena.specs.Refusals.{jobFault}
 use Rattle.arena.specs.Arena.{entered}
 use Rattle.arena.proofs.Open.{job-line, enter-open, opened-shut, opened-length, opened-open}
@@ -33,16 +32,12 @@ entered-open c = sym (entry c .enter .ensures) ∙ c .entered2 .given .1
 faultless : (c : tie.After-entered2) → jobFault (job (begun (entry c))) ≡ none
 faultless c = enter-open (job (begun (entry c))) (arena c) (entered-open c) .0
 
--- the product that the length is held against is P
-product : (c : tie.After-entered2) → arena c .pairs * (1 + begun (entry c) .args .a .letters) ≡ gameOf (job (begun (entry c))) .P
-product c =
-    let j = job (begun (entry c)) in
-    ap (λ (g : Arena). g .pairs * (1 + j .board .k)) (sym (enter-open j (arena c) (entered-open c) .1))
-
-product-most : (c : tie.After-entered2) → arena c .pairs * (1 + begun (entry c) .args .a .letters) ≤ 139264
-product-most c =
-    let j = job (begun (entry c)) in
-    omega (arith, product c, positions-most (j .board) (job-line j .0 (faultless c) .0) (modeOf (j .mode)))
+-- the size that the length is held against is P
+size-is : (c : tie.After-size) → c .size .result ≡ gameOf (job (begun (entry (c .before .before)))) .P
+size-is c =
+    let e = c .before .before in
+    let j = job (begun (entry e)) in
+    c .size .ensures ∙ ap (λ (g : Arena). positions (j .board) (g .mode)) (sym (enter-open j (arena e) (entered-open e) .1))
 
 enter-requires : tie.Need-enter-requires
 enter-requires c κs = search needs
@@ -53,20 +48,16 @@ enum-known-entered c = search needs
 enum-known-entered-2 : tie.Need-enum-known-entered-2
 enum-known-entered-2 c = search needs
 
-add-if1 : tie.Need-add-if1
-add-if1 c =
-    let e = c .before .before in
-    let j = job (begun (entry e)) in
-    omega (arith, job-line j .0 (faultless e) .0 .few-letters)
-
-mul-if1 : tie.Need-mul-if1
-mul-if1 c = omega (arith, product-most (c .before .before))
+size-requires : tie.Need-size-requires
+size-requires c κs =
+    let F = job-line (job (begun (entry (c .before)))) .0 (faultless (c .before)) .0 in
+    (F .few, F .few-letters)
 
 returns : tie.Need-returns
 returns c =
     let e = c .before .before .before in
     let s = begun (entry e) in
-    opened-length (job s) (s .args .entries) (faultless e) (λ d. omega (arith, c .if1 .taken, product e))
+    opened-length (job s) (s .args .entries) (faultless e) (λ d. omega (arith, c .if1 .taken, size-is (c .before)))
 
 returns-2 : tie.Need-returns-2
 returns-2 c =
@@ -77,7 +68,7 @@ returns-3 : tie.Need-returns-3
 returns-3 c =
     let e = c .before .before .before in
     let s = begun (entry e) in
-    opened-open (job s) (s .args .entries) (arena e) (entered-open e) (omega (arith, c .if1 .left, product e))
+    opened-open (job s) (s .args .entries) (arena e) (entered-open e) (omega (arith, c .if1 .left, size-is (c .before)))
 
 pub for-table-spec : {M : Type 1} → statement M
 for-table-spec =
@@ -86,8 +77,7 @@ for-table-spec =
     enter-requires
     enum-known-entered
     enum-known-entered-2
-    add-if1
-    mul-if1
+    size-requires
     returns
     returns-2
     returns-3)

@@ -10,9 +10,8 @@ use Rattle.automaton.specs.Answer.{valued}
 use Rattle.automaton.specs.First.{first}
 use Rattle.arena.specs.Arena.{boardIn, gameIn}
 use Rattle.table.specs.Calls.{above, lifted}
-use Rattle.table.proofs.Bounds.{row-most}
 use Rattle.table.proofs.Effects.{lifted-above, lifted-out, lifted-in}
-use Rattle.table.proofs.Keys.{keys-ascend}
+use Rattle.table.proofs.Keys.{indexable}
 use Rattle.table.proofs.Opening.{both}
 use Rattle.table.proofs.lift_in.Statement.{statement}
 use Rattle.table.proofs.lift_in.Tie as tie
@@ -58,8 +57,7 @@ slice-aggregate-fill c = search needs
 fill-requires : tie.Need-fill-requires
 fill-requires c κs =
     let s = begun (c .before .before .before) in
-    let F = s .pre .formed in
-    ((F .few, F .few-letters), (omega (arith, row-most (s .args .g .states) (s .args .g .letters) (F .few) (F .few-letters) (s .args .g .states) (omega arith)), keys-ascend (boardIn (s .args .g) (s .args .marks .now) (s .args .moves .now)) F))
+    indexable (boardIn (s .args .g) (s .args .marks .now) (s .args .moves .now)) (s .pre .formed)
 
 slice-aggregate-lift : tie.Need-slice-aggregate-lift
 slice-aggregate-lift c = search needs

@@ -10,9 +10,8 @@ use Rattle.games.specs.Game.{Game}
 use Rattle.automaton.specs.First.{first}
 use Rattle.arena.specs.Arena.{boardIn, gameIn}
 use Rattle.table.specs.Calls.{above, restless, restAt, rested}
-use Rattle.table.proofs.Bounds.{row-most}
 use Rattle.table.proofs.Effects.{rested-above, rested-at}
-use Rattle.table.proofs.Keys.{keys-ascend}
+use Rattle.table.proofs.Keys.{indexable}
 use Rattle.table.proofs.rest_in.Statement.{statement}
 use Rattle.table.proofs.rest_in.Tie as tie
 
@@ -54,8 +53,7 @@ slice-aggregate-fill c = search needs
 fill-requires : tie.Need-fill-requires
 fill-requires c κs =
     let s = begun (c .before .before) in
-    let F = s .pre .formed in
-    ((F .few, F .few-letters), (omega (arith, row-most (s .args .g .states) (s .args .g .letters) (F .few) (F .few-letters) (s .args .g .states) (omega arith)), keys-ascend (boardIn (s .args .g) (s .args .marks .now) (s .args .moves .now)) F))
+    indexable (boardIn (s .args .g) (s .args .marks .now) (s .args .moves .now)) (s .pre .formed)
 
 slice-aggregate-first-restless : tie.Need-slice-aggregate-first-restless
 slice-aggregate-first-restless c = search needs

@@ -6,8 +6,7 @@ use borrow.Author.Needs.{needs}
 use lib.ListN.{length, replicate, length-replicate}
 use Rattle.simulation.proofs.Position.{positions-are}
 use Rattle.arena.specs.Arena.{boardIn}
-use Rattle.table.proofs.Bounds.{row-most}
-use Rattle.table.proofs.Keys.{keys-ascend}
+use Rattle.table.proofs.Keys.{indexable}
 use Rattle.arena.proofs.Open.{ready-again}
 use Rattle.table.proofs.settle_in.Statement.{statement}
 use Rattle.table.proofs.settle_in.Tie as tie
@@ -21,8 +20,7 @@ slice-aggregate-fill c = search needs
 fill-requires : tie.Need-fill-requires
 fill-requires c κs =
     let s = c .before .before .before .before in
-    let F = s .pre .formed in
-    ((F .few, F .few-letters), (omega (arith, row-most (s .args .g .states) (s .args .g .letters) (F .few) (F .few-letters) (s .args .g .states) (omega arith)), keys-ascend (boardIn (s .args .g) (s .args .marks .now) (s .args .moves .now)) F))
+    indexable (boardIn (s .args .g) (s .args .marks .now) (s .args .moves .now)) (s .pre .formed)
 
 clear-requires : tie.Need-clear-requires
 clear-requires c κs =
