@@ -53,6 +53,13 @@ unless-refused (fault s) a r z e = ap fault (sym (one-refusal r s e))
 pub unless-accepted : (f : Fault) (a : Answer) → a .number ≡ 0 → accepted ≡ unless f a → f ≡ none
 unless-accepted f a z e = unless-number f a z .0 (sym (ap (λ (x : Answer). x .number) e))
 
+-- the same, from a result that was told apart
+pub checked-none : (f : Fault) (r : Checked) → r ≡ Sound → answerOf r ≡ unless f accepted → f ≡ none
+checked-none f r e a = unless-accepted f accepted refl (sym (ap answerOf e) ∙ a)
+
+pub checked-fault : (f : Fault) (r : Checked) (x : Refusal) → r ≡ Refused x → answerOf r ≡ unless f accepted → f ≡ fault x
+checked-fault f r x e a = unless-refused f accepted x refl (sym (ap answerOf e) ∙ a)
+
 pub one-result : (r s : Checked) → answerOf r ≡ answerOf s → r ≡ s
 one-result Sound Sound e = refl
 one-result Sound (Refused s) e = absurd (refused-not s accepted refl (sym e))

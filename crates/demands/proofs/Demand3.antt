@@ -5,9 +5,8 @@ use mathlib.Core.Logic.{_⊎_}
 use mathlib.Core.List.{List}
 use Prim.Native.Nat.{ℕ, _*_, _≤_, _<_}
 use Rattle.games.specs.Game.{at}
-use Rattle.games.specs.Lift.{cleared, lifts, raises, AtRest, Least}
+use Rattle.games.specs.Lift.{cleared, lifts, raises, Covers, AtRest, Least}
 use Rattle.games.proofs.Lift.{cleared-entries, cleared-capped}
-use Rattle.games.proofs.Raises.{Covers}
 use Rattle.games.proofs.Lift as lifting-laws
 use Rattle.games.proofs.Raises as raising-laws
 use Rattle.games.proofs.Settle as settling-laws
@@ -15,7 +14,7 @@ use Rattle.arena.specs.Job.{Job, gameOf}
 use Rattle.table.specs.Effect.{Effect}
 use Rattle.table.specs.Calls.{clearing, settling}
 use Rattle.table.proofs.Accepted.{clear-accepted, clear-does, settle-accepted, settle-does}
-use Rattle.demands.specs.Order.{Call, AllOrderly, after, raised, lifted}
+use Rattle.demands.specs.Order.{Call, AllOrderly, after, raised, duePositions}
 use Rattle.demands.proofs.Order.{Held, after-lifts, held-after}
 
 -- An accepted `clear` of any table, and orderly calls of `lift` after it.
@@ -33,31 +32,31 @@ module _ (j : Job) (lent : List ℕ) (accepted : clearing j lent .answer .number
   abbrev raises-so-far : ℕ
   raises-so-far = raised j (clearing j lent .table) cs
 
-  table-is : table ≡ lifts (gameOf j) (cleared (gameOf j)) (lifted cs)
-  table-is = after-lifts j cs (clearing j lent .table) held orderly .0 ∙ ap (λ (t : List ℕ). lifts (gameOf j) t (lifted cs)) start
+  table-is : table ≡ lifts (gameOf j) (cleared (gameOf j)) (duePositions cs)
+  table-is = after-lifts j cs (clearing j lent .table) held orderly .0 ∙ ap (λ (t : List ℕ). lifts (gameOf j) t (duePositions cs)) start
 
-  raises-are : raises-so-far ≡ raises (gameOf j) (cleared (gameOf j)) (lifted cs)
-  raises-are = after-lifts j cs (clearing j lent .table) held orderly .1 ∙ ap (λ (t : List ℕ). raises (gameOf j) t (lifted cs)) start
+  raises-are : raises-so-far ≡ raises (gameOf j) (cleared (gameOf j)) (duePositions cs)
+  raises-are = after-lifts j cs (clearing j lent .table) held orderly .1 ∙ ap (λ (t : List ℕ). raises (gameOf j) t (duePositions cs)) start
 
   now-held : Held j table
   now-held = held-after j cs (clearing j lent .table) held orderly
 
   -- "No entry ever passes its value in the least table at rest."
   pub never-past : (least : List ℕ) → Least (gameOf j) least → (v : ℕ) → at table v ≤ at least v
-  never-past least l v = rw table-is (lifting-laws.never-past (gameOf j) (lifted cs) least (l .at-rest) v)
+  never-past least l v = rw table-is (lifting-laws.never-past (gameOf j) (duePositions cs) least (l .at-rest) v)
 
   -- "All orders that come to rest hold that table."
   pub one-table : (least : List ℕ) → Least (gameOf j) least → AtRest (gameOf j) table → table ≡ least
-  one-table least l r = table-is ∙ settling-laws.one-table (gameOf j) least (lifted cs) l (subst (AtRest (gameOf j)) table-is r)
+  one-table least l r = table-is ∙ settling-laws.one-table (gameOf j) least (duePositions cs) l (subst (AtRest (gameOf j)) table-is r)
 
   -- "Lifting every position at least once raises something, unless the table was at rest."
-  pub all-lifted : (ds : List Call) → AllOrderly j table ds → Covers (gameOf j) (lifted ds) → AtRest (gameOf j) table ⊎ (0 < raised j table ds)
+  pub all-lifted : (ds : List Call) → AllOrderly j table ds → Covers (gameOf j) (duePositions ds) → AtRest (gameOf j) table ⊎ (0 < raised j table ds)
   all-lifted ds o c =
-      rw (after-lifts j ds table now-held o .1) (raising-laws.rest-or-raised (gameOf j) table (lifted ds) (now-held .entries) (now-held .capped) c)
+      rw (after-lifts j ds table now-held o .1) (raising-laws.rest-or-raised (gameOf j) table (duePositions ds) (now-held .entries) (now-held .capped) c)
 
   -- "The lifts that raised an entry never number more than positions times the largest entry allowed."
   pub raises-most : raises-so-far ≤ gameOf j .P * gameOf j .T
-  raises-most = rw raises-are (raising-laws.raises-most (gameOf j) (lifted cs))
+  raises-most = rw raises-are (raising-laws.raises-most (gameOf j) (duePositions cs))
 
 -- There is such a table: the one that an accepted `settle` leaves.
 pub settled-least : (j : Job) (lent : List ℕ) → settling j lent .answer .number ≡ 0 → Least (gameOf j) (settling j lent .table)

@@ -10,10 +10,10 @@ use Rattle.games.specs.Lift.{lift, lifts, rise, raises}
 use Rattle.games.proofs.Lift.{lift-entries, lift-out, lifts-entries, lifts-capped}
 use Rattle.arena.specs.Job.{Job, gameOf}
 use Rattle.table.specs.Effect.{Effect}
-use Rattle.arena.specs.Refusals.{Sound}
+use Rattle.arena.specs.Refusals.{Sound, Fitting}
 use Rattle.table.specs.Calls.{Capped, lifting}
-use Rattle.table.proofs.Accepted.{lift-refused, lift-does, lift-beyond, lift-value}
-use Rattle.demands.specs.Order.{Call, due, stray, part, restored, effect, Orderly, AllOrderly, after, value, raised, lifted}
+use Rattle.table.proofs.Accepted.{lift-accepted, lift-refused, lift-does, lift-beyond, lift-value}
+use Rattle.demands.specs.Order.{Call, due, stray, part, restored, effect, Orderly, AllOrderly, after, value, raised, duePositions}
 
 -- a table of the one automaton and mode that lifting has filled
 pub record Held (j : Job) (t : List ℕ) : Type 0 where
@@ -48,9 +48,13 @@ stray-is : (j i : Job) (t : List ℕ) (skip count v : ℕ) → Orderly j t (stra
 stray-is j i t skip count v n =
     (ap (restored skip count t) (lift-refused i (part skip count t) v n) ∙ put-same skip count t, lift-value i (part skip count t) v n)
 
+-- Such are all calls with a malformed automaton, an unknown mode, or a part of the table that has not P entries.
+pub misfit-orderly : (j i : Job) (t : List ℕ) (skip count v : ℕ) → ¬ Fitting i (part skip count t) → Orderly j t (stray i skip count v)
+misfit-orderly j i t skip count v n = λ z. n (lift-accepted i (part skip count t) v .0 z .0)
+
 -- so any calls come to the lifts of the positions that were due
 pub after-lifts : (j : Job) (cs : List Call) (t : List ℕ) → Held j t → AllOrderly j t cs
-    → (after j t cs ≡ lifts (gameOf j) t (lifted cs)) × (raised j t cs ≡ raises (gameOf j) t (lifted cs))
+    → (after j t cs ≡ lifts (gameOf j) t (duePositions cs)) × (raised j t cs ≡ raises (gameOf j) t (duePositions cs))
 after-lifts j [] t H o = (refl, refl)
 after-lifts j (due v ∷ cs) t H o =
     let (e, r) = due-is j t H v in
@@ -61,10 +65,10 @@ after-lifts j (stray i skip count v ∷ cs) t H o =
     let (a, b) = after-lifts j cs t H (subst (λ (u : List ℕ). AllOrderly j u cs) e (o .1)) in
     (ap (λ (u : List ℕ). after j u cs) e ∙ a, omega (arith, r, ap (λ (u : List ℕ). raised j u cs) e, b))
 
--- and leave a table that may be lifted on
+-- and leave a table that may be duePositions on
 pub held-after : (j : Job) (cs : List Call) (t : List ℕ) → Held j t → AllOrderly j t cs → Held j (after j t cs)
 held-after j cs t H o = subst (Held j) (sym (after-lifts j cs t H o .0)) (record {
   sound = H .sound;
-  entries = lifts-entries (gameOf j) (lifted cs) t ∙ H .entries;
-  capped = lifts-capped (gameOf j) (lifted cs) t (H .entries) (H .capped);
+  entries = lifts-entries (gameOf j) (duePositions cs) t ∙ H .entries;
+  capped = lifts-capped (gameOf j) (duePositions cs) t (H .entries) (H .capped);
 })

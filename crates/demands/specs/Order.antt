@@ -29,7 +29,7 @@ abbrev pub effect : Job → (table : List ℕ) → Call → Effect
 effect j t (due v) = lifting j t v
 effect j t (stray i skip count v) = let e = lifting i (part skip count t) v in record { answer = e .answer; table = restored skip count t (e .table) }
 
--- "calls refused for any other reason among them": a stray call is one that is refused
+-- "refused calls among them": a stray call is one that is refused
 abbrev pub Orderly : Job → (table : List ℕ) → Call → Type 0
 Orderly j t (due v) = Unit {0}
 Orderly j t (stray i skip count v) = lifting i (part skip count t) v .answer .number ≢ 0
@@ -52,7 +52,7 @@ raised j t [] = 0
 raised j t (c ∷ cs) = value (effect j t c .answer) + raised j (effect j t c .table) cs
 
 -- the positions that the due calls lift
-abbrev pub lifted : List Call → List ℕ
-lifted [] = []
-lifted (due v ∷ cs) = v ∷ lifted cs
-lifted (stray i skip count v ∷ cs) = lifted cs
+abbrev pub duePositions : List Call → List ℕ
+duePositions [] = []
+duePositions (due v ∷ cs) = v ∷ duePositions cs
+duePositions (stray i skip count v ∷ cs) = duePositions cs

@@ -8,7 +8,7 @@ use native.Mathlib.Omega.{arith}
 use native.Mathlib.Decide.{decLt, ℕ-discrete}
 use lib.ListN.{length, getD, set}
 use Rattle.games.specs.Game.{Game, asked, at}
-use Rattle.games.specs.Lift.{cleared, lift, lifts, rise, raises, bound, AtRest}
+use Rattle.games.specs.Lift.{cleared, lift, lifts, rise, raises, bound, AtRest, Covers}
 use Rattle.games.proofs.Lift.{lift-same, lift-out, lift-still, lifts-entries, lifts-capped, cleared-entries, cleared-capped}
 
 -- ---- no raise
@@ -31,10 +31,6 @@ unraised : (g : Game) (t vs : List ℕ) → raises g t vs ≡ 0 → {v : ℕ} �
 unraised g t vs e (List·Memᴰ·head {x = u} {xs = us} p) h = rw p (rise-rest g t u (rw (← p) h) (omega arith))
 unraised g t vs e (List·Memᴰ·tail {x = u} {xs = us} m) h =
     unraised g t us (rw (rise-still g t u (omega arith)) at (let z : raises g (lift g t u) us ≡ 0 = omega arith in z)) m h
-
--- every position is among those lifted
-abbrev pub Covers : Game → List ℕ → Type 0
-Covers g vs = (v : ℕ) → v < g .P → List·Memᴰ v vs
 
 pub unraised-rest : (g : Game) (t vs : List ℕ) → length t ≡ g .P → ((v : ℕ) → at t v ≤ g .T) → Covers g vs → raises g t vs ≡ 0 → AtRest g t
 unraised-rest g t vs l c all e = record { entries = l; capped = c; rest = λ v h. unraised g t vs e (all v h) (omega arith) }

@@ -8,10 +8,10 @@ use native.Mathlib.Decide.{ℕ-discrete}
 use lib.ListN.{length}
 use lib.Seq.{ext-getD}
 use Rattle.games.specs.Game.{Game, at}
-use Rattle.games.specs.Lift.{cleared, lifts, raises, bound, AtRest, Least}
+use Rattle.games.specs.Lift.{cleared, lifts, raises, bound, Covers, AtRest, Least}
 use Rattle.games.specs.Settle.{ascending, sweep, Outcome, after, sweeps, enough, settle}
 use Rattle.games.proofs.Lift.{lifts-entries, lifts-append, lifts-capped, cleared-entries, cleared-capped, never-past}
-use Rattle.games.proofs.Raises.{Covers, unraised-rest, raises-append, raises-most, total, total-lifts, total-most}
+use Rattle.games.proofs.Raises.{unraised-rest, raises-append, raises-most, total, total-lifts, total-most}
 
 -- ---- the least table
 

@@ -1,6 +1,6 @@
 -- Lifting, rest, and the least table at rest.
 use mathlib.Core.Path.{_≡_}
-use mathlib.Core.List.{List, [], _∷_}
+use mathlib.Core.List.{List, [], _∷_, List·Memᴰ}
 use Prim.Native.Nat.{ℕ, _+_, _*_, _-_, _≤_, _<_, min, max}
 use lib.ListN.{length, set, replicate}
 use Rattle.games.specs.Game.{Game, asked, at}
@@ -26,6 +26,10 @@ rise g t v = min 1 (at (lift g t v) v - at t v)
 abbrev pub raises : Game → (table vs : List ℕ) → ℕ
 raises g t [] = 0
 raises g t (v ∷ vs) = rise g t v + raises g (lift g t v) vs
+
+-- "every position at least once"
+abbrev pub Covers : Game → (vs : List ℕ) → Type 0
+Covers g vs = (v : ℕ) → v < g .P → List·Memᴰ v vs
 
 -- "positions times the largest entry allowed"
 abbrev pub bound : Game → ℕ

@@ -12,6 +12,7 @@ use automaton::Automaton;
 // The keys at the limits, and one more: where the moves end.
 pub const KEYS: usize = Automaton::STATES * Automaton::LETTERS + 1;
 
+// A byte, wide enough to index with.
 pub fn wide(x: u8) -> usize
     ensures { λ r. ⌜ r ≡ x ⌝ }
 {

@@ -1,13 +1,12 @@
 -- `arena::enter` meets its contract: what `check` and `named` answered decides the refusal, and the arena has the game's numbers.
-use mathlib.Core.Path.{_≡_, refl, sym, ap, _∙_}
+use mathlib.Core.Path.{_≡_, sym, ap, _∙_}
 use mathlib.Core.List.{[]}
 use Prim.Native.Nat.{ℕ}
 use borrow.Author.Needs.{needs}
-use Rattle.automaton.specs.declared.Checked.{Checked}
-use Rattle.automaton.specs.Answer.{accepted, none, unless}
+use Rattle.automaton.specs.Answer.{none}
 use Rattle.automaton.specs.Board.{Board, boardOf, Formed}
-use Rattle.automaton.specs.Check.{automatonFault, checked, answerOf}
-use Rattle.automaton.proofs.One.{unless-accepted, unless-refused}
+use Rattle.automaton.specs.Check.{automatonFault, checked}
+use Rattle.automaton.proofs.One.{checked-none, checked-fault}
 use Rattle.automaton.proofs.Sound.{automaton-line}
 use Rattle.arena.specs.declared.Opened.the-variants.{Open}
 use Rattle.arena.specs.Job.{Job, jobOf}
@@ -25,14 +24,10 @@ board c = boardOf (c .args .a) (c .args .marks .now) (c .args .moves .now)
 abbrev job : tie.Start → Job
 job c = jobOf (c .args .a) (c .args .marks .now) (c .args .moves .now) (c .args .mode)
 
--- what `check` answered, where that was a given result
-check-is : (c : tie.After-check) {r : Checked} → c .check .result ≡ r → answerOf r ≡ unless (automatonFault (board (begun c)) (begun c .args .a .start)) accepted
-unfolding checked
-check-is c e = sym (ap answerOf e) ∙ c .check .ensures
-
 -- no fault was found with the automaton, so it is well formed
 faultless : (c : tie.After-enum-told) → automatonFault (board (begun (c .before .before))) (begun (c .before .before) .args .a .start) ≡ none
-faultless c = unless-accepted _ accepted refl (check-is (c .before .before) (c .enum-told .given .1))
+unfolding checked
+faultless c = let check = c .before .before .check in checked-none _ (check .result) (c .enum-told .given .1) (check .ensures)
 
 formed : (c : tie.After-enum-told) → Formed (board (begun (c .before .before)))
 formed c = automaton-line (board (begun (c .before .before))) (begun (c .before .before) .args .a .start) .0 (faultless c) .0
@@ -44,10 +39,11 @@ enum-known-checked : tie.Need-enum-known-checked
 enum-known-checked c = search needs
 
 returns : tie.Need-returns
+unfolding checked
 returns c =
     let at = c .before .before .before in
     let r = c .before .checked .given .0 .0 in
-    entered-refused (job (begun at)) r (unless-refused _ accepted r refl (check-is at (c .before .checked .given .1)))
+    entered-refused (job (begun at)) r (checked-fault _ (at .check .result) r (c .before .checked .given .1) (at .check .ensures))
 
 enum-told : tie.Need-enum-told
 enum-told c = search needs

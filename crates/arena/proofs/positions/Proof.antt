@@ -1,13 +1,12 @@
 -- `arena::positions` meets its contract: what `limits` and `named` answered decides the refusal.
-use mathlib.Core.Path.{_≡_, refl, sym, ap, _∙_}
+use mathlib.Core.Path.{_≡_, sym, ap, _∙_}
 use mathlib.Core.List.{List, [], _∷_}
 use borrow.Author.Needs.{needs}
-use Rattle.automaton.specs.declared.Checked.{Checked}
-use Rattle.automaton.specs.Answer.{Answer, accepted, valued, Fault, none, firstFault, unless}
+use Rattle.automaton.specs.Answer.{Answer, valued, Fault, none, firstFault, unless}
 use Rattle.automaton.specs.Board.{boardOf}
-use Rattle.automaton.specs.Check.{statesFault, lettersFault, limited, answerOf}
+use Rattle.automaton.specs.Check.{statesFault, lettersFault, limited}
 use Rattle.automaton.proofs.Fault.{faults-passed, faults-stopped}
-use Rattle.automaton.proofs.One.{unless-accepted, unless-refused}
+use Rattle.automaton.proofs.One.{checked-none, checked-fault}
 use Rattle.automaton.proofs.Sound.{limits-line}
 use Rattle.simulation.specs.Position.{positions}
 use Rattle.arena.specs.Refusals.{modeFault}
@@ -26,13 +25,11 @@ mode-line c = modeFault (c .args .mode) ∷ []
 abbrev sized : tie.Start → Answer
 sized c = valued (positions (boardOf (c .args .a) [] []) (modeOf (c .args .mode)))
 
--- what `limits` answered, where that was a given result
-limits-is : (c : tie.After-limits) {r : Checked} → c .limits .result ≡ r → answerOf r ≡ unless (firstFault (limit-lines (c .before))) accepted
-unfolding limited
-limits-is c e = sym (ap answerOf e) ∙ c .limits .ensures
-
 within : (c : tie.After-enum-told) → firstFault (limit-lines (c .before .before .before)) ≡ none
-within c = unless-accepted _ accepted refl (limits-is (c .before .before) (c .enum-told .given .1))
+unfolding limited
+within c =
+    let limits = c .before .before .limits in
+    checked-none (firstFault (limit-lines (c .before .before .before))) (limits .result) (c .enum-told .given .1) (limits .ensures)
 
 limits-requires : tie.Need-limits-requires
 limits-requires c κs = search needs
@@ -41,10 +38,11 @@ enum-known-limited : tie.Need-enum-known-limited
 enum-known-limited c = search needs
 
 returns : tie.Need-returns
+unfolding limited
 returns c =
     let at = c .before .before .before in
     let r = c .before .limited .given .0 .0 in
-    let e = unless-refused _ accepted r refl (limits-is at (c .before .limited .given .1)) in
+    let e = checked-fault (firstFault (limit-lines (at .before))) (at .limits .result) r (c .before .limited .given .1) (at .limits .ensures) in
     sym (ap (λ f. unless f (sized (at .before))) (faults-stopped (limit-lines (at .before)) (mode-line (at .before)) r e))
 
 enum-told : tie.Need-enum-told

@@ -1,5 +1,5 @@
 -- `automaton::check` meets its contract: past each test the answer is that of the lines of the table that are left.
-use mathlib.Core.Path.{_≡_, refl, sym, ap, _∙_}
+use mathlib.Core.Path.{_≡_, sym, ap, _∙_}
 use mathlib.Core.List.{List, [], _∷_}
 use Prim.Native.Nat.{ℕ, _/_, _<_}
 use native.Mathlib.Omega.{arith}
@@ -8,11 +8,10 @@ use borrow.Author.Tests.{eq-eqb, ne-eqb, lt-ltb, le-ltb, le-leb, lt-leb}
 use lib.ListN.{length, drop}
 use Rattle.automaton.specs.Answer.{Answer, accepted, Fault, firstFault, unless}
 use Rattle.automaton.specs.Board.{boardOf}
-use Rattle.automaton.specs.Check.{high, statesFault, lettersFault, faults, limited, checked, answerOf}
+use Rattle.automaton.specs.Check.{high, statesFault, lettersFault, faults, limited, checked}
 use Rattle.automaton.specs.First.{first}
-use Rattle.automaton.specs.declared.Checked.{Checked}
 use Rattle.automaton.proofs.Fault.{faults-passed, faults-stopped}
-use Rattle.automaton.proofs.One.{unless-accepted, unless-refused}
+use Rattle.automaton.proofs.One.{checked-none, checked-fault}
 use Rattle.automaton.proofs.check.Statement.{statement}
 use Rattle.automaton.proofs.check.Tie as tie
 
@@ -43,16 +42,12 @@ begun-bytes c = begun-marks (c .before .before)
 abbrev limit-lines : tie.Start → List Fault
 limit-lines c = statesFault (c .args .a .states) ∷ lettersFault (c .args .a .letters) ∷ []
 
--- what `limits` answered, where that was a given result
-limits-is : (c : tie.After-limits) {r : Checked} → c .limits .result ≡ r → answerOf r ≡ unless (firstFault (limit-lines (begun c))) accepted
-unfolding limited
-limits-is c e = sym (ap answerOf e) ∙ c .limits .ensures
-
 past-limits : (c : tie.After-enum-told) → asked (begun-limits c) ≡ after 2 (begun-limits c)
-unfolding checked
+unfolding checked limited
 past-limits c =
     let at = begun-limits c in
-    let e = unless-accepted _ accepted refl (limits-is (c .before .before) (c .enum-told .given .1)) in
+    let limits = c .before .before .limits in
+    let e = checked-none (firstFault (limit-lines at)) (limits .result) (c .enum-told .given .1) (limits .ensures) in
     ap (λ f. unless f accepted) (faults-passed (limit-lines at) (left 2 at) e)
 
 abbrev begun-high : tie.After-first-high → tie.Start
@@ -86,11 +81,13 @@ enum-known-limited : tie.Need-enum-known-limited
 enum-known-limited c = search needs
 
 returns : tie.Need-returns
-unfolding checked
+unfolding checked limited
 returns c =
+    let limits = c .before .before .before .limits in
     let at = begun (c .before .before .before) in
-    let e = unless-refused _ accepted (c .before .limited .given .0 .0) refl (limits-is (c .before .before .before) (c .before .limited .given .1)) in
-    ap (λ f. unless f accepted) (sym (faults-stopped (limit-lines at) (left 2 at) _ e))
+    let r = c .before .limited .given .0 .0 in
+    let e = checked-fault (firstFault (limit-lines at)) (limits .result) r (c .before .limited .given .1) (limits .ensures) in
+    ap (λ f. unless f accepted) (sym (faults-stopped (limit-lines at) (left 2 at) r e))
 
 enum-told : tie.Need-enum-told
 enum-told c = search needs
