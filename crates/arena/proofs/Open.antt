@@ -26,8 +26,8 @@ use Rattle.simulation.specs.Rules.{ceiling}
 use Rattle.arena.specs.declared.Arena.{Arena}
 use Rattle.arena.specs.declared.Opened.{Opened}
 use Rattle.arena.specs.declared.Opened.the-variants.{Open, Shut}
-use Rattle.arena.specs.Job.{Job, isUnknown, modeIn, modeOf, gameOf}
-use Rattle.arena.specs.Refusals.{modeFault, jobFault, lengthFault, openFault, Sound, Fitting}
+use Rattle.arena.specs.Job.{Job, isUnknown, modeOf, gameOf}
+use Rattle.arena.specs.Refusals.{modeFault, jobFault, lengthFault, openFault, Proper, Fitting}
 use Rattle.arena.specs.Arena.{arenaOf, gameIn, Ready, openedBy, entered, opened}
 
 -- ---- reading an opened arena back
@@ -60,14 +60,14 @@ by-shut (fault s) h r e = ap fault (ap (refusalIn s) e)
 
 -- ---- refusals 1 to 8
 
-known : (n : Named) → (isUnknown n ≡ false) ↔ (n ≡ Known (modeIn n))
-known (Known m) = (λ e. refl, λ e. refl)
-known Unknown = (λ e. absurd (true≢false e), λ e. ap isUnknown e)
+known : (n : Named) → (isUnknown n ≡ false) ↔ (n ≢ Unknown)
+known (Known m) = (λ e d. absurd (true≢false (sym (ap isUnknown d))), λ e. refl)
+known Unknown = (λ e. absurd (true≢false e), λ n. absurd (n refl))
 
-pub mode-line : (mode : ℕ) → Line (modeFault mode) (nameOf mode ≡ Known (modeOf mode))
+pub mode-line : (mode : ℕ) → Line (modeFault mode) (nameOf mode ≢ Unknown)
 mode-line mode = fails-line (isUnknown (nameOf mode)) _ ModeNumber (known (nameOf mode))
 
-pub job-line : (j : Job) → Line (jobFault j) (Sound j)
+pub job-line : (j : Job) → Line (jobFault j) (Proper j)
 job-line j =
     Iff·trans (table-line (automaton-line (j .board) (j .start) then mode-line (j .mode) then end))
     (λ h. (h .0 .0, h .0 .1, h .1 .0), λ h. ((h .0, h .1), (h .2, tt)))

@@ -15,6 +15,7 @@ use Rattle.arena.specs.declared.Opened.the-variants.{Open, Shut}
 use Rattle.arena.specs.Job.{Job, modeOf}
 use Rattle.arena.specs.Refusals.{jobFault, openFault}
 
+-- the numbers of a board's game in a mode
 abbrev pub arenaOf : Board → Mode → Arena
 arenaOf B m = record { states = B .n; letters = B .k; mode = m; pairs = pairs B m; top = ceiling B m }
 
@@ -25,7 +26,7 @@ boardIn g marks moves = record { n = g .states; k = g .letters; marks = marks; m
 abbrev pub gameIn : Arena → (marks moves : List ℕ) → Game
 gameIn g marks moves = game (boardIn g marks moves) (g .mode)
 
--- the arena of a checked automaton, and a table of P entries
+-- What the code below a call asks for, and no public promise cites: the arena of a checked automaton, and a table of P entries.
 pub record Ready (g : Arena) (marks moves table : List ℕ) : Type 0 where
   pub formed : Formed (boardIn g marks moves)
   pub paired : g .pairs ≡ pairs (boardIn g marks moves) (g .mode)

@@ -18,9 +18,11 @@ pub record Job : Type 0 where
   pub start : ℕ
   pub mode : ℕ
 
+-- the job of an automaton's record, with the marks and the moves lent beside it
 abbrev pub jobOf : Automaton → (marks moves : List ℕ) → (mode : ℕ) → Job
 jobOf a marks moves mode = record { board = boardOf a marks moves; start = a .start; mode = mode }
 
+-- has no mode this name?
 abbrev pub isUnknown : Named → Bool
 isUnknown (Known m) = false
 isUnknown Unknown = true

@@ -1,5 +1,6 @@
 -- The refusals 1 to 9 that the calls on a table share, and the two numbers of a table: P and T.
 use mathlib.Core.Path.{_≡_}
+use mathlib.Core.Logic.{_≢_}
 use mathlib.Core.Bool.{not}
 use mathlib.Core.List.{List, [], _∷_}
 use Prim.Native.Nat.{ℕ, _<_}
@@ -7,7 +8,7 @@ use lib.Dec.{eqb}
 use lib.ListN.{length}
 use Rattle.games.specs.Game.{Game}
 use Rattle.automaton.specs.declared.Automaton.{Automaton}
-use Rattle.automaton.specs.declared.Named.the-variants.{Known}
+use Rattle.automaton.specs.declared.Named.the-variants.{Unknown}
 use Rattle.automaton.specs.declared.Refusal.the-variants.{ModeNumber, TableLength}
 use Rattle.automaton.specs.Answer.{Answer, valued, Fault, fails, firstFault, unless}
 use Rattle.automaton.specs.Board.{boardOf, Formed}
@@ -35,12 +36,12 @@ openFault j entries = firstFault (jobFault j ∷ lengthFault (gameOf j) entries 
 -- ---- what a call must be given, for none of them to apply
 
 -- 1 to 8: a well-formed automaton whose start is one of its states, and the number of a mode
-abbrev pub Sound : Job → Type 0
-Sound j = Formed (j .board) × (j .start < j .board .n) × (nameOf (j .mode) ≡ Known (modeOf (j .mode)))
+abbrev pub Proper : Job → Type 0
+Proper j = Formed (j .board) × (j .start < j .board .n) × (nameOf (j .mode) ≢ Unknown)
 
 -- 1 to 9: and a table of P entries
 abbrev pub Fitting : Job → (table : List ℕ) → Type 0
-Fitting j t = Sound j × (length t ≡ gameOf j .P)
+Fitting j t = Proper j × (length t ≡ gameOf j .P)
 
 -- ---- the two numbers of a table
 

@@ -68,7 +68,7 @@ table-line (_then_ {f} {fs} {P} {Q} l t) = go f l (table-line t)
     go none r q = (λ e. (r .0 refl, q .0 e), λ h. q .1 (h .1))
     go (fault x) r q = (λ e. absurd (found e), λ h. absurd (found (r .1 (h .0))))
 
--- the lines after some that decide, or that do not
+-- after lines that find no fault, and after one that finds one
 pub faults-passed : (fs gs : List Fault) → firstFault fs ≡ none → firstFault (fs ++ gs) ≡ firstFault gs
 faults-passed [] gs e = refl
 faults-passed (none ∷ fs) gs e = faults-passed fs gs e

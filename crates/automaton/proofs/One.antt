@@ -10,7 +10,7 @@ use Rattle.automaton.specs.declared.Checked.{Checked}
 use Rattle.automaton.specs.declared.Checked.the-variants.{Sound, Refused}
 use Rattle.automaton.proofs.Fault.{refusal-numbered, unless-number}
 
--- the refusal with a given number and place, counted from number 1
+-- the refusal with a given number and place, and any for a number that none has
 refusalAt : (number place : ℕ) → Refusal
 refusalAt zero p = States
 refusalAt (suc zero) p = States
@@ -46,11 +46,11 @@ pub refused-not : (r : Refusal) (a : Answer) → a .number ≡ 0 → refused r �
 refused-not r a z e = let n : numberOf r ≡ a .number = ap (λ (x : Answer). x .number) e in omega (arith, refusal-numbered r)
 
 -- what was at fault, from the answer of a call
-pub unless-refused : (f : Fault) (a : Answer) (r : Refusal) → a .number ≡ 0 → refused r ≡ unless f a → f ≡ fault r
+unless-refused : (f : Fault) (a : Answer) (r : Refusal) → a .number ≡ 0 → refused r ≡ unless f a → f ≡ fault r
 unless-refused none a r z e = absurd (refused-not r a z e)
 unless-refused (fault s) a r z e = ap fault (sym (one-refusal r s e))
 
-pub unless-accepted : (f : Fault) (a : Answer) → a .number ≡ 0 → accepted ≡ unless f a → f ≡ none
+unless-accepted : (f : Fault) (a : Answer) → a .number ≡ 0 → accepted ≡ unless f a → f ≡ none
 unless-accepted f a z e = unless-number f a z .0 (sym (ap (λ (x : Answer). x .number) e))
 
 -- the same, from a result that was told apart

@@ -3,6 +3,7 @@ use mathlib.Core.Bool.{Bool, true, false}
 use mathlib.Core.List.{List, [], _∷_}
 use Prim.Native.Nat.{ℕ}
 use lib.Dec.{ltb}
+use lib.ListN.{getD}
 use Rattle.automaton.specs.First.{first}
 use Rattle.automaton.specs.declared.Refusal.{Refusal}
 use Rattle.automaton.specs.declared.Refusal.the-variants.{States, Letters, Marks, Start, Bytes, Outside, Unsorted, ModeNumber, TableLength, AboveCeiling, PositionNumber}
@@ -20,6 +21,14 @@ accepted = record { number = 0; place = 0; values = 0 ∷ 0 ∷ 0 ∷ [] }
 -- an accepted call that names one value
 abbrev pub valued : ℕ → Answer
 valued x = record { number = 0; place = 0; values = x ∷ 0 ∷ 0 ∷ [] }
+
+-- one that names a place, and the value 0
+abbrev pub placed : ℕ → Answer
+placed i = record { number = 0; place = i; values = 0 ∷ 0 ∷ 0 ∷ [] }
+
+-- the value of an answer that names one
+abbrev pub value : Answer → ℕ
+value a = getD (a .values) 0 0
 
 -- "Numbers of refusal": the number and the place of each
 abbrev pub numberOf : Refusal → ℕ

@@ -13,52 +13,54 @@ use Rattle.games.proofs.Settle as settling-laws
 use Rattle.arena.specs.Job.{Job, gameOf}
 use Rattle.table.specs.Effect.{Effect}
 use Rattle.table.specs.Calls.{clearing, settling}
-use Rattle.table.proofs.Accepted.{clear-accepted, clear-does, settle-accepted, settle-does}
+use Rattle.table.proofs.Accepted.{clear-accepted, clear-does, settle-does}
 use Rattle.demands.specs.Order.{Call, AllOrderly, after, raised, duePositions}
 use Rattle.demands.proofs.Order.{Held, after-lifts, held-after}
 
--- An accepted `clear` of any table, and orderly calls of `lift` after it.
-module _ (j : Job) (lent : List ℕ) (accepted : clearing j lent .answer .number ≡ 0) (cs : List Call) (orderly : AllOrderly j (clearing j lent .table) cs) where
+-- An accepted `clear` of a lent table,
+module _ (j : Job) (lent : List ℕ) (accepted : clearing j lent .answer .number ≡ 0) where
   start : clearing j lent .table ≡ cleared (gameOf j)
   start = ap (λ (x : Effect). x .table) (clear-does j lent (clear-accepted j lent .0 accepted))
 
   held : Held j (clearing j lent .table)
-  held = subst (Held j) (sym start) (record { sound = clear-accepted j lent .0 accepted .0; entries = cleared-entries (gameOf j); capped = cleared-capped (gameOf j) })
+  held = subst (Held j) (sym start) (record { proper = clear-accepted j lent .0 accepted .0; entries = cleared-entries (gameOf j); capped = cleared-capped (gameOf j) })
 
-  -- the table after the calls, and how many of them raised an entry
-  abbrev table : List ℕ
-  table = after j (clearing j lent .table) cs
+  -- There is a least table at rest: the one that `settle` leaves.
+  pub settled-least : Least (gameOf j) (settling j lent .table)
+  settled-least =
+      subst (Least (gameOf j)) (sym (ap (λ (x : Effect). x .table) (settle-does j lent (clear-accepted j lent .0 accepted)))) (settling-laws.settle-least (gameOf j))
 
-  abbrev raises-so-far : ℕ
-  raises-so-far = raised j (clearing j lent .table) cs
+  -- and orderly calls of `lift` after it.
+  module _ (cs : List Call) (orderly : AllOrderly j (clearing j lent .table) cs) where
+    -- the table after the calls, and how many of them raised an entry
+    abbrev table : List ℕ
+    table = after j (clearing j lent .table) cs
 
-  table-is : table ≡ lifts (gameOf j) (cleared (gameOf j)) (duePositions cs)
-  table-is = after-lifts j cs (clearing j lent .table) held orderly .0 ∙ ap (λ (t : List ℕ). lifts (gameOf j) t (duePositions cs)) start
+    abbrev raises-so-far : ℕ
+    raises-so-far = raised j (clearing j lent .table) cs
 
-  raises-are : raises-so-far ≡ raises (gameOf j) (cleared (gameOf j)) (duePositions cs)
-  raises-are = after-lifts j cs (clearing j lent .table) held orderly .1 ∙ ap (λ (t : List ℕ). raises (gameOf j) t (duePositions cs)) start
+    table-is : table ≡ lifts (gameOf j) (cleared (gameOf j)) (duePositions cs)
+    table-is = after-lifts j cs (clearing j lent .table) held orderly .0 ∙ ap (λ (t : List ℕ). lifts (gameOf j) t (duePositions cs)) start
 
-  now-held : Held j table
-  now-held = held-after j cs (clearing j lent .table) held orderly
+    raises-are : raises-so-far ≡ raises (gameOf j) (cleared (gameOf j)) (duePositions cs)
+    raises-are = after-lifts j cs (clearing j lent .table) held orderly .1 ∙ ap (λ (t : List ℕ). raises (gameOf j) t (duePositions cs)) start
 
-  -- "No entry ever passes its value in the least table at rest."
-  pub never-past : (least : List ℕ) → Least (gameOf j) least → (v : ℕ) → at table v ≤ at least v
-  never-past least l v = rw table-is (lifting-laws.never-past (gameOf j) (duePositions cs) least (l .at-rest) v)
+    now-held : Held j table
+    now-held = held-after j cs (clearing j lent .table) held orderly
 
-  -- "All orders that come to rest hold that table."
-  pub one-table : (least : List ℕ) → Least (gameOf j) least → AtRest (gameOf j) table → table ≡ least
-  one-table least l r = table-is ∙ settling-laws.one-table (gameOf j) least (duePositions cs) l (subst (AtRest (gameOf j)) table-is r)
+    -- "No entry ever passes its value in the least table at rest."
+    pub never-past : (least : List ℕ) → Least (gameOf j) least → (v : ℕ) → at table v ≤ at least v
+    never-past least l v = rw table-is (lifting-laws.never-past (gameOf j) (duePositions cs) least (l .at-rest) v)
 
-  -- "Lifting every position at least once raises something, unless the table was at rest."
-  pub all-lifted : (ds : List Call) → AllOrderly j table ds → Covers (gameOf j) (duePositions ds) → AtRest (gameOf j) table ⊎ (0 < raised j table ds)
-  all-lifted ds o c =
-      rw (after-lifts j ds table now-held o .1) (raising-laws.rest-or-raised (gameOf j) table (duePositions ds) (now-held .entries) (now-held .capped) c)
+    -- "All orders that come to rest hold that table."
+    pub one-table : (least : List ℕ) → Least (gameOf j) least → AtRest (gameOf j) table → table ≡ least
+    one-table least l r = table-is ∙ settling-laws.one-table (gameOf j) least (duePositions cs) l (subst (AtRest (gameOf j)) table-is r)
 
-  -- "The lifts that raised an entry never number more than positions times the largest entry allowed."
-  pub raises-most : raises-so-far ≤ gameOf j .P * gameOf j .T
-  raises-most = rw raises-are (raising-laws.raises-most (gameOf j) (duePositions cs))
+    -- "Lifting every position at least once raises something, unless the table was at rest."
+    pub all-lifted : (ds : List Call) → AllOrderly j table ds → Covers (gameOf j) (duePositions ds) → AtRest (gameOf j) table ⊎ (0 < raised j table ds)
+    all-lifted ds o c =
+        rw (after-lifts j ds table now-held o .1) (raising-laws.rest-or-raised (gameOf j) table (duePositions ds) (now-held .entries) (now-held .capped) c)
 
--- There is such a table: the one that an accepted `settle` leaves.
-pub settled-least : (j : Job) (lent : List ℕ) → settling j lent .answer .number ≡ 0 → Least (gameOf j) (settling j lent .table)
-settled-least j lent accepted =
-    subst (Least (gameOf j)) (sym (ap (λ (x : Effect). x .table) (settle-does j lent (settle-accepted j lent .0 accepted)))) (settling-laws.settle-least (gameOf j))
+    -- "The lifts that raised an entry never number more than positions times the largest entry allowed."
+    pub raises-most : raises-so-far ≤ gameOf j .P * gameOf j .T
+    raises-most = rw raises-are (raising-laws.raises-most (gameOf j) (duePositions cs))

@@ -4,8 +4,8 @@
 use mathlib.Core.Logic.{_≢_}
 use mathlib.Core.List.{List, [], _∷_, _++_}
 use Prim.Native.Nat.{ℕ, _+_}
-use lib.ListN.{getD, take, drop}
-use Rattle.automaton.specs.Answer.{Answer}
+use lib.ListN.{length, take, drop}
+use Rattle.automaton.specs.Answer.{value}
 use Rattle.arena.specs.Job.{Job}
 use Rattle.table.specs.Effect.{Effect}
 use Rattle.table.specs.Calls.{lifting}
@@ -14,25 +14,36 @@ use Rattle.table.specs.Calls.{lifting}
 pub data Call : Type 0 where
   -- of the one automaton and mode, on the whole table, at any position, in range or not
   due : (v : ℕ) → Call
-  -- of any other automaton, start, mode and position, on the `count` entries that follow the first `skip`
-  stray : (i : Job) → (skip count v : ℕ) → Call
+  -- of any automaton, start, mode and position. It is lent the `count` entries of the table that follow the first `skip`,
+  -- with any other entries before and behind them.
+  stray : (i : Job) → (before behind : List ℕ) → (skip count v : ℕ) → Call
 
--- the entries that a stray call is lent, and the table with others in their place
+-- the entries of the table that a stray call is lent, all that it is lent, and the table with others in their place
 abbrev pub part : (skip count : ℕ) → (table : List ℕ) → List ℕ
 part skip count t = take count (drop skip t)
 
+abbrev pub lent : (before behind part : List ℕ) → List ℕ
+lent before behind p = before ++ (p ++ behind)
+
 abbrev pub restored : (skip count : ℕ) → (table part : List ℕ) → List ℕ
-restored skip count t u = take skip t ++ (u ++ drop count (drop skip t))
+restored skip count t p = take skip t ++ (p ++ drop count (drop skip t))
+
+-- what stands at that place in a list of the same length as was lent
+abbrev pub between : (before part : List ℕ) → (all : List ℕ) → List ℕ
+between before p u = take (length p) (drop (length before) u)
 
 -- what a call answers and leaves
 abbrev pub effect : Job → (table : List ℕ) → Call → Effect
 effect j t (due v) = lifting j t v
-effect j t (stray i skip count v) = let e = lifting i (part skip count t) v in record { answer = e .answer; table = restored skip count t (e .table) }
+effect j t (stray i before behind skip count v) =
+    let p = part skip count t in
+    let e = lifting i (lent before behind p) v in
+    record { answer = e .answer; table = restored skip count t (between before p (e .table)) }
 
 -- "refused calls among them": a stray call is one that is refused
 abbrev pub Orderly : Job → (table : List ℕ) → Call → Type 0
 Orderly j t (due v) = Unit {0}
-Orderly j t (stray i skip count v) = lifting i (part skip count t) v .answer .number ≢ 0
+Orderly j t (stray i before behind skip count v) = lifting i (lent before behind (part skip count t)) v .answer .number ≢ 0
 
 -- calls one after another: whether all are orderly, the table after them, and how many raised an entry
 abbrev pub AllOrderly : Job → (table : List ℕ) → List Call → Type 0
@@ -43,10 +54,7 @@ abbrev pub after : Job → (table : List ℕ) → List Call → List ℕ
 after j t [] = t
 after j t (c ∷ cs) = after j (effect j t c .table) cs
 
--- the value of an answer: 1 from a lift whose entry rose
-abbrev pub value : Answer → ℕ
-value a = getD (a .values) 0 0
-
+-- a lift whose entry rose has the value 1
 abbrev pub raised : Job → (table : List ℕ) → List Call → ℕ
 raised j t [] = 0
 raised j t (c ∷ cs) = value (effect j t c .answer) + raised j (effect j t c .table) cs
@@ -55,4 +63,4 @@ raised j t (c ∷ cs) = value (effect j t c .answer) + raised j (effect j t c .t
 abbrev pub duePositions : List Call → List ℕ
 duePositions [] = []
 duePositions (due v ∷ cs) = v ∷ duePositions cs
-duePositions (stray i skip count v ∷ cs) = duePositions cs
+duePositions (stray i before behind skip count v ∷ cs) = duePositions cs

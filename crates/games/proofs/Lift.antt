@@ -99,7 +99,7 @@ from-cleared R g c z vs w = lifts-all R g c vs (cleared g) (cleared-entries g) (
 pub lifts-capped : (g : Game) (vs t : List ℕ) → length t ≡ g .P → ((v : ℕ) → at t v ≤ g .T) → (v : ℕ) → at (lifts g t vs) v ≤ g .T
 lifts-capped g vs t l c = lifts-all (λ w n. n ≤ g .T) g (λ f h v i. asked-cap g f h v) vs t l c
 
--- "every entry is at most T", whatever was lifted
+-- no entry is ever above T, whatever was lifted
 pub never-above-T : (g : Game) (vs : List ℕ) (v : ℕ) → at (lifts g (cleared g) vs) v ≤ g .T
 never-above-T g vs v = lifts-capped g vs (cleared g) (cleared-entries g) (cleared-capped g) v
 

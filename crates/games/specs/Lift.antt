@@ -39,10 +39,14 @@ bound g = g .P * g .T
 abbrev pub Rest : Game → (entry : ℕ → ℕ) → Type 0
 Rest g f = (v : ℕ) → v < g .P → asked g f v ≤ f v
 
+-- "none above T": of its entries
+abbrev pub Capped : Game → (table : List ℕ) → Type 0
+Capped g t = (v : ℕ) → at t v ≤ g .T
+
 -- "a table is at rest when it has P entries, none above T, and all its positions are at rest"
 pub record AtRest (g : Game) (t : List ℕ) : Type 0 where
   pub entries : length t ≡ g .P
-  pub capped : (v : ℕ) → at t v ≤ g .T
+  pub capped : Capped g t
   pub rest : Rest g (at t)
 
 -- "The least table at rest has at each position the least entry that any table at rest has there."

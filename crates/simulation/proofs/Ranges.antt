@@ -16,11 +16,11 @@ use Rattle.simulation.proofs.Moves.{made, made-suc}
 -- ---- what is gathered from a stretch
 
 -- f makes h i of each of the c moves from lo on, and nothing of the others
-pub record Range {X : Type 0} (f : ℕ → ℕ → ℕ → List X) (ms : List ℕ) (h : ℕ → X) (lo c : ℕ) : Type 0 where
-  pub inside : (lo + c) * 3 ≤ length ms
-  pub before : (i : ℕ) → i < lo → made f ms i ≡ []
-  pub within : (i : ℕ) → lo ≤ i → i < lo + c → made f ms i ≡ h i ∷ []
-  pub after : (i : ℕ) → lo + c ≤ i → i * 3 + 2 < length ms → made f ms i ≡ []
+record Range {X : Type 0} (f : ℕ → ℕ → ℕ → List X) (ms : List ℕ) (h : ℕ → X) (lo c : ℕ) : Type 0 where
+  inside : (lo + c) * 3 ≤ length ms
+  before : (i : ℕ) → i < lo → made f ms i ≡ []
+  within : (i : ℕ) → lo ≤ i → i < lo + c → made f ms i ≡ h i ∷ []
+  after : (i : ℕ) → lo + c ≤ i → i * 3 + 2 < length ms → made f ms i ≡ []
 
 map-ascending : {X : Type 0} (h : ℕ → X) (v c : ℕ) → map h (ascending (suc v) c) ≡ map (λ i. h (suc i)) (ascending v c)
 map-ascending h v zero = refl
@@ -42,7 +42,7 @@ module _ {X : Type 0} (f : ℕ → ℕ → ℕ → List X) where
     after = λ i l k. sym (made-suc f x y z ms i) ∙ r .after (suc i) (omega arith) (omega arith);
   }
 
-  pub gather-range : (ms : List ℕ) (h : ℕ → X) (lo c : ℕ) → Range f ms h lo c → gather f ms ≡ map h (ascending lo c)
+  gather-range : (ms : List ℕ) (h : ℕ → X) (lo c : ℕ) → Range f ms h lo c → gather f ms ≡ map h (ascending lo c)
   gather-range [] h lo c r = short h lo c (omega (arith, r .inside))
   gather-range (x ∷ []) h lo c r = short h lo c (omega (arith, r .inside))
   gather-range (x ∷ y ∷ []) h lo c r = short h lo c (r .inside)

@@ -23,7 +23,7 @@ pub record LowestLeast (B : Board) (m : Mode) (t : List ℕ) (b q r a s : ℕ) :
 
 -- ---- mode 2
 
--- "brings b to 0 within n rounds, or Spoiler has no move first": b is 0 here, or there is a round left
+-- "brings b to 0 within m rounds, or Spoiler has no move first", with n for m: b is 0 here, or there is a round left
 -- and to each of Spoiler's moves Duplicator has the move of σ, which brings b to 0 within one round fewer.
 abbrev pub Brings : Board → Choices → (n : ℕ) → Position → Type 0
 Brings B σ zero p = Met p

@@ -7,18 +7,19 @@ use Prim.Native.Nat.{ℕ, _≤_, _<_}
 use native.Mathlib.Decide.{decLt}
 use native.Mathlib.Omega.{arith}
 use lib.Dec.{ltb}
-use lib.ListN.{length, getD, List·getD-eq-default}
-use borrow.Author.Tests.{ltb-false, le-ltb, leb-false, lt-leb, le-leb}
+use lib.ListN.{length, List·getD-eq-default}
+use borrow.Author.Tests.{ltb-false, le-ltb, leb-false, lt-leb}
 use Rattle.games.specs.Game.{Game, at}
-use Rattle.games.specs.Lift.{lift, rise, cleared}
+use Rattle.games.specs.Lift.{lift, rise, cleared, Capped}
 use Rattle.games.specs.Settle.{settle}
 use Rattle.automaton.specs.declared.Refusal.the-variants.{AboveCeiling, PositionNumber}
-use Rattle.automaton.specs.Answer.{Answer, accepted, valued, refused, Fault, none, fault, firstFault}
-use Rattle.automaton.proofs.Fault.{refusal-numbered, Line, fails-line, failsAt-line, _then_, end, table-line, faults-passed, unless-number, found}
+use Rattle.automaton.specs.Answer.{Answer, accepted, valued, placed, value, refused, Fault, unless, none, fault, firstFault}
+use Rattle.automaton.proofs.Fault.{refusal-numbered, Line, fails-line, failsAt-line, _then_, end, table-line, unless-number, found}
 use Rattle.arena.specs.Job.{Job, gameOf}
 use Rattle.arena.specs.Refusals.{openFault, Fitting}
 use Rattle.table.specs.Effect.{Effect, does, opening}
-use Rattle.table.specs.Calls.{above, entryFault, positionFault, Capped, clearing, lifted, lifting, restAt, rested, resting, settling}
+use Rattle.table.proofs.Effects.{lifted-in, lifted-out}
+use Rattle.table.specs.Calls.{above, entryFault, positionFault, clearing, lifted, lifting, restAt, rested, resting, settling}
 use Rattle.arena.proofs.Open.{open-line}
 
 -- ---- the lines 10 and 11
@@ -41,10 +42,14 @@ position-line g v = fails-line _ _ PositionNumber (leb-false (g .P) v, lt-leb (g
 
 -- ---- accepted
 
--- a call that does e unless something is at fault
+-- an answer, and a call, unless something is at fault
+unless-also : (f : Fault) (a : Answer) (P Q : Type 0) → Line f P → (a .number ≡ 0) ↔ Q → (unless f a .number ≡ 0) ↔ (P × Q)
+unless-also none a P Q l q = (λ z. (l .0 refl, q .0 z), λ h. q .1 (h .1))
+unless-also (fault r) a P Q l q = (λ z. absurd (omega (arith, refusal-numbered r)), λ h. absurd (found (l .1 (h .0))))
+
 does-number : (f : Fault) (t : List ℕ) (e : Effect) (P Q : Type 0) → Line f P → (e .answer .number ≡ 0) ↔ Q → (does f t e .answer .number ≡ 0) ↔ (P × Q)
-does-number none t e P Q l q = (λ z. (l .0 refl, q .0 z), λ h. q .1 (h .1))
-does-number (fault r) t e P Q l q = (λ z. absurd (omega (arith, refusal-numbered r)), λ h. absurd (found (l .1 (h .0))))
+does-number none t e = unless-also none (e .answer)
+does-number (fault r) t e = unless-also (fault r) (e .answer)
 
 always : (a : Answer) → a .number ≡ 0 → (a .number ≡ 0) ↔ Unit {0}
 always a z = (λ e. tt, λ e. z)
@@ -72,14 +77,14 @@ lift-accepted j t v = does-number (openFault j (length t)) t _ _ _ (open-line j 
 rest-number : (P w : ℕ) → restAt P w .number ≡ 0
 rest-number P w = go (ltb w P)
   where
-    go : (b : Bool) → cond b (record { number = 0; place = w; values = 0 ∷ 0 ∷ 0 ∷ [] }) (valued 1) .number ≡ 0
+    go : (b : Bool) → cond b (placed w) (valued 1) .number ≡ 0
     go true = refl
     go false = refl
 
 pub rest-accepted : (j : Job) (t : List ℕ) → (resting j t .number ≡ 0) ↔ (Fitting j t × Capped (gameOf j) t)
 unfolding resting rested
 rest-accepted j t =
-    does-number (openFault j (length t)) t _ _ _ (open-line j t)
+    unless-also (openFault j (length t)) (rested (gameOf j) t) _ _ (open-line j t)
     (Iff·trans (unless-number (entryFault (gameOf j) t) (restAt (gameOf j .P) _) (rest-number (gameOf j .P) _)) (entry-line (gameOf j) t))
 
 -- ---- what an accepted call does
@@ -96,23 +101,14 @@ unfolding settling
 settle-does j t f = opening-does j t f (record { answer = valued (settle (gameOf j) .raised); table = settle (gameOf j) .table })
 
 module _ (j : Job) (t : List ℕ) (v : ℕ) (f : Fitting j t) (c : Capped (gameOf j) t) where
-  raising : Effect
-  raising = record { answer = valued (rise (gameOf j) t v); table = lift (gameOf j) t v }
-
-  lift-by : (k : Fault) → firstFault (entryFault (gameOf j) t ∷ positionFault (gameOf j) v ∷ []) ≡ k → lifting j t v ≡ does k t raising
-  unfolding lifting lifted raising
-  lift-by k e = opening-does j t f (lifted (gameOf j) t v) ∙ ap (λ (x : Fault). does x t raising) e
-
   pub lift-does : v < gameOf j .P → lifting j t v ≡ record { answer = valued (rise (gameOf j) t v); table = lift (gameOf j) t v }
-  unfolding raising
-  lift-does h = lift-by none (table-line (entry-line (gameOf j) t then position-line (gameOf j) v then end) .1 (c, (h, tt)))
+  unfolding lifting
+  lift-does h = opening-does j t f (lifted (gameOf j) t v) ∙ lifted-in (gameOf j) t v (entry-line (gameOf j) t .1 c) h
 
   -- beyond the positions there is nothing to lift
   pub lift-beyond : gameOf j .P ≤ v → lifting j t v ≡ record { answer = refused PositionNumber; table = t }
-  lift-beyond h = lift-by (fault PositionNumber) (faults-passed (entryFault (gameOf j) t ∷ []) (positionFault (gameOf j) v ∷ []) (alone-passed (entry-line (gameOf j) t .1 c)) ∙ simp (le-leb (gameOf j .P) v h))
-    where
-      alone-passed : {k : Fault} → k ≡ none → firstFault (k ∷ []) ≡ none
-      alone-passed e = rw e
+  unfolding lifting
+  lift-beyond h = opening-does j t f (lifted (gameOf j) t v) ∙ lifted-out (gameOf j) t v (entry-line (gameOf j) t .1 c) h
 
 -- ---- refused
 
@@ -135,11 +131,11 @@ lift-refused j t v =
     (does-kept (firstFault (entryFault (gameOf j) t ∷ positionFault (gameOf j) v ∷ [])) t _ (λ n. absurd (n refl)))
 
 -- "values 0"
-does-zero : (f : Fault) (t : List ℕ) (e : Effect) → (e .answer .number ≢ 0 → getD (e .answer .values) 0 0 ≡ 0) → does f t e .answer .number ≢ 0 → getD (does f t e .answer .values) 0 0 ≡ 0
+does-zero : (f : Fault) (t : List ℕ) (e : Effect) → (e .answer .number ≢ 0 → value (e .answer) ≡ 0) → does f t e .answer .number ≢ 0 → value (does f t e .answer) ≡ 0
 does-zero none t e k n = k n
 does-zero (fault r) t e k n = refl
 
-pub lift-value : (j : Job) (t : List ℕ) (v : ℕ) → lifting j t v .answer .number ≢ 0 → getD (lifting j t v .answer .values) 0 0 ≡ 0
+pub lift-value : (j : Job) (t : List ℕ) (v : ℕ) → lifting j t v .answer .number ≢ 0 → value (lifting j t v .answer) ≡ 0
 unfolding lifting lifted
 lift-value j t v =
     does-zero (openFault j (length t)) t _

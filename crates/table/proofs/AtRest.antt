@@ -2,21 +2,19 @@
 use mathlib.Core.Path.{_≡_, refl, sym, ap, _∙_}
 use mathlib.Core.Logic.{_↔_}
 use mathlib.Core.Bool.{Bool, true, false, cond}
-use mathlib.Core.List.{List, [], _∷_}
+use mathlib.Core.List.{List}
 use Prim.Native.Nat.{ℕ, _≤_, _<_}
 use native.Mathlib.Omega.{arith}
 use lib.Dec.{ltb}
-use lib.ListN.{getD}
 use borrow.Author.Tests.{ltb-true, ltb-false, le-ltb}
 use Rattle.games.specs.Game.{Game, asked, at}
-use Rattle.games.specs.Lift.{Rest, AtRest}
-use Rattle.automaton.specs.Answer.{Answer, valued, Fault, unless}
+use Rattle.games.specs.Lift.{Rest, Capped, AtRest}
+use Rattle.automaton.specs.Answer.{Answer, valued, placed, value, Fault, unless}
 use Rattle.automaton.specs.First.{first}
 use Rattle.automaton.proofs.First.{first-lowest, first-none}
 use Rattle.arena.specs.Job.{Job, gameOf}
-use Rattle.table.specs.Effect.{does}
-use Rattle.arena.specs.Refusals.{Sound, Fitting}
-use Rattle.table.specs.Calls.{Capped, restless, restAt, rested, resting}
+use Rattle.arena.specs.Refusals.{Proper, Fitting}
+use Rattle.table.specs.Calls.{restless, restAt, rested, resting}
 use Rattle.table.proofs.Accepted.{entry-line, rest-accepted}
 use Rattle.arena.proofs.Open.{open-line}
 
@@ -28,15 +26,15 @@ lowest g t = first (restless g t) 0 (g .P)
 told : (j : Job) (t : List ℕ) → Fitting j t → Capped (gameOf j) t → resting j t ≡ restAt (gameOf j .P) (lowest (gameOf j) t)
 unfolding resting rested
 told j t f c =
-    ap (λ (k : Fault). does k t (record { answer = rested (gameOf j) t; table = t }) .answer) (open-line j t .1 f)
+    ap (λ (k : Fault). unless k (rested (gameOf j) t)) (open-line j t .1 f)
     ∙ ap (λ (k : Fault). unless k (restAt (gameOf j .P) (lowest (gameOf j) t))) (entry-line (gameOf j) t .1 c)
 
 -- value 1 says that there is none
 value-one : (P w : ℕ) → restAt P w ≡ valued 1 → P ≤ w
 value-one P w e = go (ltb w P) refl e
   where
-    go : (b : Bool) → ltb w P ≡ b → cond b (record { number = 0; place = w; values = 0 ∷ 0 ∷ 0 ∷ [] }) (valued 1) ≡ valued 1 → P ≤ w
-    go true d e = let z : _≡_ {A = ℕ} 0 1 = ap (λ (a : Answer). getD (a .values) 0 0) e in absurd (omega arith)
+    go : (b : Bool) → ltb w P ≡ b → cond b (placed w) (valued 1) ≡ valued 1 → P ≤ w
+    go true d e = let z : _≡_ {A = ℕ} 0 1 = ap value e in absurd (omega arith)
     go false d e = ltb-false w P d
 
 none-restless : (g : Game) (t : List ℕ) → (g .P ≤ lowest g t) ↔ Rest g (at t)
@@ -46,22 +44,22 @@ none-restless g t = (
 )
 
 -- "value 1 if the table is at rest"
-pub rest-told : (j : Job) (t : List ℕ) → (resting j t ≡ valued 1) ↔ (Sound j × AtRest (gameOf j) t)
+pub rest-told : (j : Job) (t : List ℕ) → (resting j t ≡ valued 1) ↔ (Proper j × AtRest (gameOf j) t)
 rest-told j t = (there, back)
   where
-    there : resting j t ≡ valued 1 → Sound j × AtRest (gameOf j) t
+    there : resting j t ≡ valued 1 → Proper j × AtRest (gameOf j) t
     there e =
         let (f, c) = rest-accepted j t .0 (ap (λ (a : Answer). a .number) e) in
         let r = none-restless (gameOf j) t .0 (value-one (gameOf j .P) (lowest (gameOf j) t) (sym (told j t f c) ∙ e)) in
         (f .0, record { entries = f .1; capped = c; rest = r })
 
-    back : Sound j × AtRest (gameOf j) t → resting j t ≡ valued 1
+    back : Proper j × AtRest (gameOf j) t → resting j t ≡ valued 1
     back h =
         let r = h .1 in
         told j t (h .0, r .entries) (r .capped) ∙ simp (le-ltb (lowest (gameOf j) t) (gameOf j .P) (none-restless (gameOf j) t .1 (r .rest)))
 
 -- "else 0 with the lowest position not at rest as place"
-pub rest-lowest : (j : Job) (t : List ℕ) (v : ℕ) → resting j t ≡ record { number = 0; place = v; values = 0 ∷ 0 ∷ 0 ∷ [] }
+pub rest-lowest : (j : Job) (t : List ℕ) (v : ℕ) → resting j t ≡ placed v
     → (v < gameOf j .P) × ((at t v < asked (gameOf j) (at t) v) × ((u : ℕ) → u < v → asked (gameOf j) (at t) u ≤ at t u))
 rest-lowest j t v e = go (ltb w P) refl (sym (told j t (accepted .0) (accepted .1)) ∙ e)
   where
@@ -74,7 +72,7 @@ rest-lowest j t v e = go (ltb w P) refl (sym (told j t (accepted .0) (accepted .
     accepted : Fitting j t × Capped (gameOf j) t
     accepted = rest-accepted j t .0 (ap (λ (a : Answer). a .number) e)
 
-    go : (b : Bool) → ltb w P ≡ b → cond b (record { number = 0; place = w; values = 0 ∷ 0 ∷ 0 ∷ [] }) (valued 1) ≡ record { number = 0; place = v; values = 0 ∷ 0 ∷ 0 ∷ [] }
+    go : (b : Bool) → ltb w P ≡ b → cond b (placed w) (valued 1) ≡ placed v
         → (v < P) × ((at t v < asked (gameOf j) (at t) v) × ((u : ℕ) → u < v → asked (gameOf j) (at t) u ≤ at t u))
     go true d a =
         let same : w ≡ v = ap (λ (x : Answer). x .place) a in
@@ -86,4 +84,4 @@ rest-lowest j t v e = go (ltb w P) refl (sym (told j t (accepted .0) (accepted .
             λ u h. ltb-false (at t u) (asked (gameOf j) (at t) u) (l .before u (omega arith) (omega arith)),
           ),
         )
-    go false d a = let z : _≡_ {A = ℕ} 1 0 = ap (λ (x : Answer). getD (x .values) 0 0) a in absurd (omega arith)
+    go false d a = let z : _≡_ {A = ℕ} 1 0 = ap value a in absurd (omega arith)

@@ -1,12 +1,8 @@
 -- Products of numbers within the limits: what positions are counted by is small.
-use mathlib.Core.Bool.{true}
 use Prim.Native.Nat.{ℕ, suc, _+_, _*_, _≤_, _<_}
 use native.Mathlib.Nat.{mul-le-mul, mul-le-mul-right, suc-mul}
 use native.Mathlib.Omega.{arith}
-use Rattle.automaton.specs.declared.Mode.{Mode}
-use Rattle.automaton.specs.declared.Mode.the-variants.{Ordinary, Direct, Delayed, Fair}
 use Rattle.automaton.specs.Limits.{mostLetters, mostStates}
-use Rattle.simulation.specs.Rules.{pended, eased}
 
 -- the keys of a state are among those of all
 pub row-within : (n k q : ℕ) → q < n → q * k + k ≤ n * k
@@ -24,16 +20,3 @@ module _ (n k : ℕ) (few : n ≤ mostStates) (few-letters : k ≤ mostLetters) 
 
   pub block-most : (b : ℕ) → b < 2 → b * (n * n) * k ≤ 65536
   block-most b h = mul-le-mul {n₂ = 4096} {m₂ = 16} (layer-most b h) few-letters
-
--- b stays a bit
-pub pended-bit : (m : Mode) (b : ℕ) → b < 2 → pended m true b < 2
-pended-bit Ordinary b h = h
-pended-bit Direct b h = h
-pended-bit Delayed b h = omega arith
-pended-bit Fair b h = h
-
-pub eased-bit : (m : Mode) (b : ℕ) → b < 2 → eased m true b < 2
-eased-bit Ordinary b h = h
-eased-bit Direct b h = h
-eased-bit Delayed b h = omega arith
-eased-bit Fair b h = h

@@ -28,7 +28,7 @@ key-step k x y z x′ y′ z′ l (inl h) = omega (arith, mul-le-mul-right k h, 
 key-step k x y z x′ y′ z′ l (inr (e, inl h)) = rw e (omega arith)
 key-step k x y z x′ y′ z′ l (inr (e, inr (d, h))) = rw (e, d) (le-refl (x′ * k + y′))
 
-pub keys-ascend : (B : Board) → Formed B → Ascending (B .k) (B .moves)
+keys-ascend : (B : Board) → Formed B → Ascending (B .k) (B .moves)
 keys-ascend B F i h = key-step (B .k) _ _ _ _ _ _ (F .inside i (omega arith) .1) (F .order i (omega arith))
 
 -- a well-formed board is all that the index asks for: 1,025 places suffice
@@ -36,7 +36,7 @@ pub indexable : (B : Board) → Formed B → ((B .n ≤ mostStates) × (B .k ≤
 indexable B F = ((F .few, F .few-letters), (omega (arith, row-most (B .n) (B .k) (F .few) (F .few-letters) (B .n) (le-refl (B .n))), keys-ascend B F))
 
 -- of any two moves, the later has no lesser key
-pub key-mono : (k : ℕ) (ms : List ℕ) → Ascending k ms → (i j : ℕ) → i ≤ j → j * 3 + 2 < length ms → key k ms i ≤ key k ms j
+key-mono : (k : ℕ) (ms : List ℕ) → Ascending k ms → (i j : ℕ) → i ≤ j → j * 3 + 2 < length ms → key k ms i ≤ key k ms j
 key-mono k ms A i zero h l = let e : i ≡ 0 = omega arith in rw e (le-refl (key k ms 0))
 key-mono k ms A i (suc j) h l = go (decLe i j) (λ p. key-mono k ms A i j p (omega arith))
   where
@@ -86,7 +86,7 @@ record Between (k : ℕ) (ms : List ℕ) (x y lo c : ℕ) : Type 0 where
 
 module _ (n k : ℕ) (ms begins : List ℕ) (I : Indexed n k ms begins) where
   -- the places do not fall
-  pub begins-mono : (x y : ℕ) → x ≤ y → y ≤ n * k → getD begins x 0 ≤ getD begins y 0
+  begins-mono : (x y : ℕ) → x ≤ y → y ≤ n * k → getD begins x 0 ≤ getD begins y 0
   begins-mono x y h l = go (decLe (getD begins x 0) (getD begins y 0))
     where
       go : Dec (getD begins x 0 ≤ getD begins y 0) → getD begins x 0 ≤ getD begins y 0

@@ -2,8 +2,7 @@
 use mathlib.Core.Path.{_≡_, refl, sym, ap}
 use Prim.Native.Nat.{ℕ}
 use native.Mathlib.Omega.{arith}
-use lib.ListN.{getD}
-use Rattle.automaton.specs.Answer.{Answer, accepted, valued}
+use Rattle.automaton.specs.Answer.{Answer, accepted, valued, placed, value}
 use Rattle.automaton.proofs.One.{one-refusal, refused-not}
 use Rattle.table.specs.Answers.{ofCleared, ofLifted, ofRested, ofSettled}
 use Rattle.table.specs.declared.Cleared.{Cleared}
@@ -15,10 +14,6 @@ use Rattle.table.specs.declared.Rested.the-variants as of-rest
 use Rattle.table.specs.declared.Settled.{Settled}
 use Rattle.table.specs.declared.Settled.the-variants as of-settle
 
--- the first value of an answer
-value : Answer → ℕ
-value a = getD (a .values) 0 0
-
 pub one-cleared : (r s : Cleared) → ofCleared r ≡ ofCleared s → r ≡ s
 one-cleared of-clear.Done of-clear.Done e = refl
 one-cleared of-clear.Done (of-clear.Refused s) e = absurd (refused-not s accepted refl (sym e))
@@ -26,7 +21,6 @@ one-cleared (of-clear.Refused r) of-clear.Done e = absurd (refused-not r accepte
 one-cleared (of-clear.Refused r) (of-clear.Refused s) e = ap of-clear.Refused (one-refusal r s e)
 
 pub one-lifted : (r s : Lifted) → ofLifted r ≡ ofLifted s → r ≡ s
-unfolding value
 one-lifted of-lift.Rose of-lift.Rose e = refl
 one-lifted of-lift.Rose of-lift.Stayed e = absurd (let z : _≡_ {A = ℕ} 1 0 = ap value e in omega arith)
 one-lifted of-lift.Rose (of-lift.Refused s) e = absurd (refused-not s (valued 1) refl (sym e))
@@ -38,19 +32,17 @@ one-lifted (of-lift.Refused r) of-lift.Stayed e = absurd (refused-not r (valued 
 one-lifted (of-lift.Refused r) (of-lift.Refused s) e = ap of-lift.Refused (one-refusal r s e)
 
 pub one-rested : (r s : Rested) → ofRested r ≡ ofRested s → r ≡ s
-unfolding value
 one-rested of-rest.AtRest of-rest.AtRest e = refl
 one-rested of-rest.AtRest (of-rest.Restless w) e = absurd (let z : _≡_ {A = ℕ} 1 0 = ap value e in omega arith)
 one-rested of-rest.AtRest (of-rest.Refused s) e = absurd (refused-not s (valued 1) refl (sym e))
 one-rested (of-rest.Restless v) of-rest.AtRest e = absurd (let z : _≡_ {A = ℕ} 0 1 = ap value e in omega arith)
 one-rested (of-rest.Restless v) (of-rest.Restless w) e = ap of-rest.Restless (ap (λ (a : Answer). a .place) e)
-one-rested (of-rest.Restless v) (of-rest.Refused s) e = absurd (refused-not s (ofRested (of-rest.Restless v)) refl (sym e))
+one-rested (of-rest.Restless v) (of-rest.Refused s) e = absurd (refused-not s (placed v) refl (sym e))
 one-rested (of-rest.Refused r) of-rest.AtRest e = absurd (refused-not r (valued 1) refl e)
-one-rested (of-rest.Refused r) (of-rest.Restless w) e = absurd (refused-not r (ofRested (of-rest.Restless w)) refl e)
+one-rested (of-rest.Refused r) (of-rest.Restless w) e = absurd (refused-not r (placed w) refl e)
 one-rested (of-rest.Refused r) (of-rest.Refused s) e = ap of-rest.Refused (one-refusal r s e)
 
 pub one-settled : (r s : Settled) → ofSettled r ≡ ofSettled s → r ≡ s
-unfolding value
 one-settled (of-settle.Raised n) (of-settle.Raised m) e = ap of-settle.Raised (ap value e)
 one-settled (of-settle.Raised n) (of-settle.Refused s) e = absurd (refused-not s (valued n) refl (sym e))
 one-settled (of-settle.Refused r) (of-settle.Raised m) e = absurd (refused-not r (valued m) refl e)

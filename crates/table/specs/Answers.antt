@@ -1,6 +1,5 @@
 -- The number, place and values of each case of each call's answer. A refusal's are those of `automaton`.
-use mathlib.Core.List.{[], _∷_}
-use Rattle.automaton.specs.Answer.{Answer, accepted, valued, refused}
+use Rattle.automaton.specs.Answer.{Answer, accepted, valued, placed, refused}
 use Rattle.table.specs.declared.Cleared.{Cleared}
 use Rattle.table.specs.declared.Cleared.the-variants as of-clear
 use Rattle.table.specs.declared.Lifted.{Lifted}
@@ -21,7 +20,7 @@ ofLifted (of-lift.Refused r) = refused r
 
 abbrev pub ofRested : Rested → Answer
 ofRested of-rest.AtRest = valued 1
-ofRested (of-rest.Restless v) = record { number = 0; place = v; values = 0 ∷ 0 ∷ 0 ∷ [] }
+ofRested (of-rest.Restless v) = placed v
 ofRested (of-rest.Refused r) = refused r
 
 abbrev pub ofSettled : Settled → Answer

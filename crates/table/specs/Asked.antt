@@ -1,4 +1,5 @@
 -- What a position asks for, by its parts, and the kinds of Spoiler's positions as the code names them.
+-- Functions below the calls promise it to each other; no public promise cites it.
 use mathlib.Core.List.{List, map}
 use Prim.Native.Nat.{ℕ}
 use Rattle.games.specs.Game.{ask, at}
@@ -17,6 +18,7 @@ onward B m p = map (number B m) (steps B m p)
 abbrev pub askedOf : Board → Mode → (table : List ℕ) → Position → ℕ
 askedOf B m t p = ask (kindOf B m p) (ceiling B m) (at t) (onward B m p)
 
+-- the kind that a turn of the code stands for
 abbrev pub kindIn : Turn → games.Kind
 kindIn High = games.high
 kindIn Counting = games.counting

@@ -1,16 +1,17 @@
 -- The calls on a table, for every input: what each answers, and the table after it.
 use mathlib.Core.Bool.{Bool, cond}
 use mathlib.Core.List.{List, [], _∷_}
-use Prim.Native.Nat.{ℕ, _≤_}
+use Prim.Native.Nat.{ℕ}
 use lib.Dec.{ltb, leb}
 use lib.ListN.{length}
 use Rattle.games.specs.Game.{Game, asked, at}
 use Rattle.games.specs.Lift.{cleared, lift, rise}
 use Rattle.games.specs.Settle.{settle}
 use Rattle.automaton.specs.declared.Refusal.the-variants.{AboveCeiling, PositionNumber}
-use Rattle.automaton.specs.Answer.{Answer, accepted, valued, Fault, fails, failsAt, firstFault, unless}
+use Rattle.automaton.specs.Answer.{Answer, accepted, valued, placed, Fault, fails, failsAt, firstFault, unless}
 use Rattle.automaton.specs.First.{first}
 use Rattle.arena.specs.Job.{Job, gameOf}
+use Rattle.arena.specs.Refusals.{openFault}
 use Rattle.table.specs.Effect.{Effect, does, opening}
 
 -- ---- the refusals 10 and 11
@@ -25,10 +26,6 @@ entryFault g t = failsAt AboveCeiling (above (g .T) t) (length t)
 -- 11: "position not below P"
 abbrev pub positionFault : Game → ℕ → Fault
 positionFault g v = fails (leb (g .P) v) PositionNumber
-
--- no refusal 10: no entry above T
-abbrev pub Capped : Game → (table : List ℕ) → Type 0
-Capped g t = (v : ℕ) → at t v ≤ g .T
 
 -- ---- the four calls
 
@@ -49,13 +46,13 @@ restless g t v = ltb (at t v) (asked g (at t) v)
 
 -- "Rest: value 1 if the table is at rest, else 0 with the lowest position not at rest as place."
 abbrev pub restAt : (P lowest : ℕ) → Answer
-restAt P v = cond (ltb v P) (record { number = 0; place = v; values = 0 ∷ 0 ∷ 0 ∷ [] }) (valued 1)
+restAt P v = cond (ltb v P) (placed v) (valued 1)
 
 unfoldable pub rested : Game → (table : List ℕ) → Answer
 rested g t = unless (entryFault g t) (restAt (g .P) (first (restless g t) 0 (g .P)))
 
 unfoldable pub resting : Job → (table : List ℕ) → Answer
-resting j t = opening j t (record { answer = rested (gameOf j) t; table = t }) .answer
+resting j t = unless (openFault j (length t)) (rested (gameOf j) t)
 
 -- "Settle: clear, then sweep positions in ascending order until a whole sweep raises nothing; value is the number of raises."
 unfoldable pub settling : Job → (table : List ℕ) → Effect

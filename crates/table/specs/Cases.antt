@@ -5,7 +5,7 @@ use Prim.Native.Nat.{ℕ}
 use lib.ListN.{replicate}
 use Rattle.games.specs.Game.{at}
 use Rattle.automaton.specs.declared.Refusal.the-variants.{ModeNumber, TableLength, AboveCeiling, PositionNumber}
-use Rattle.automaton.specs.Answer.{Answer, valued, refused}
+use Rattle.automaton.specs.Answer.{Answer, valued, placed, refused}
 use Rattle.simulation.specs.Cases.{boardA}
 use Rattle.arena.specs.Job.{Job}
 use Rattle.arena.specs.Refusals.{topping}
@@ -45,7 +45,7 @@ cases =
     ∷ answers (lifting (jobA 2) (zeros 16) 15 .answer) (valued 0)
     ∷ answers (lifting (jobA 2) (zeros 16) 6 .answer) (valued 1)
     -- the cleared table is not at rest, and 4 is the lowest position that shows it; the settled one is
-    ∷ answers (resting (jobA 2) (zeros 16)) (record { number = 0; place = 4; values = 0 ∷ 0 ∷ 0 ∷ [] })
+    ∷ answers (resting (jobA 2) (zeros 16)) (placed 4)
     ∷ answers (settling (jobA 2) (zeros 16) .answer) (valued 4)
     ∷ answers (resting (jobA 2) (settling (jobA 2) (zeros 16) .table)) (valued 1)
     -- "The lowest number that applies is given"

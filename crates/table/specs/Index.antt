@@ -1,4 +1,5 @@
 -- The moves by their keys, and a list of the places where each key begins.
+-- Functions below the calls promise it to each other; no public promise cites it.
 use Prim.Native.Nat.{ℕ, suc, _+_, _*_, _≤_, _<_}
 use mathlib.Core.List.{List}
 use lib.ListN.{length, getD}

@@ -1,4 +1,5 @@
 -- The steps from a position as a stretch of the moves: where each leads, and which stretch a position has.
+-- Functions below the calls promise it to each other; no public promise cites it.
 use mathlib.Core.Bool.{true, cond}
 use mathlib.Core.List.{List, map}
 use Prim.Native.Nat.{ℕ, _+_, _*_, _-_, _≤_, _<_}

@@ -6,6 +6,7 @@ ghost use lib.Dec.{eqb};
 ghost use lib.ListN.{length, getD};
 ghost use Rattle.automaton.specs.Board.{to};
 ghost use Rattle.automaton.specs.Limits.{mostLetters, mostStates};
+ghost use Rattle.simulation.specs.Position.{layers};
 ghost use Rattle.simulation.specs.Rules.{eased, pended};
 ghost use Rattle.table.specs.Steps.{duplicatorSteps, spoilerSteps, spotOf};
 use super::index::wide;
@@ -31,7 +32,7 @@ pub fn accepts(marks: &[u8], q: usize) -> bool
     marks[q] == 1
 }
 
-// The position that move i leads to.
+// The position that move i leads to. Positions are numbered in four bytes, so no sum wraps.
 pub fn spot(s: Steps, marks: &[u8], moves: &[u8], i: usize) -> usize
     requires { ⌜ i * 3 + 2 < length (now moves) ⌝ }
     requires { ⌜ to (now moves) i < length (now marks) ⌝ }
@@ -51,7 +52,7 @@ pub fn spot(s: Steps, marks: &[u8], moves: &[u8], i: usize) -> usize
 }
 
 // The bit b after Red's move to an accepting state.
-pub fn pending(mode: Mode, b: usize) -> usize
+pub fn pended_bit(mode: Mode, b: usize) -> usize
     ensures { λ r. ⌜ r ≡ pended mode true b ⌝ }
 {
     match mode {
@@ -63,7 +64,7 @@ pub fn pending(mode: Mode, b: usize) -> usize
 }
 
 // The bit b after Blue's move to an accepting state.
-pub fn met(mode: Mode, b: usize) -> usize
+pub fn eased_bit(mode: Mode, b: usize) -> usize
     ensures { λ r. ⌜ r ≡ eased mode true b ⌝ }
 {
     match mode {
@@ -77,7 +78,7 @@ pub fn met(mode: Mode, b: usize) -> usize
 // The steps from Spoiler's (b, q, r): the moves from q.
 pub fn spoiler_steps(g: Arena, begins: &[usize], b: usize, q: usize, r: usize) -> Steps
     requires { ⌜ (g .states ≤ mostStates) × (g .letters ≤ mostLetters) × (g .pairs ≤ 8192) ⌝ }
-    requires { ⌜ (b < 2) × (q < g .states) × (r < g .states) ⌝ }
+    requires { ⌜ (b < layers (g .mode)) × (q < g .states) × (r < g .states) ⌝ }
     requires { ⌜ g .states * g .letters < length (now begins) ⌝ }
     ensures { λ s. ⌜ s ≡ spoilerSteps g (now (begins .entry)) b q r ⌝ }
 {
@@ -91,7 +92,7 @@ pub fn spoiler_steps(g: Arena, begins: &[usize], b: usize, q: usize, r: usize) -
         lo: begins[row],
         hi: begins[row + letters],
         plain: base + b * square * letters,
-        marked: base + pending(mode, b) * square * letters,
+        marked: base + pended_bit(mode, b) * square * letters,
         stride: states * letters,
         step: 1,
     }
@@ -100,7 +101,7 @@ pub fn spoiler_steps(g: Arena, begins: &[usize], b: usize, q: usize, r: usize) -
 // The steps from Duplicator's (b, q, r, a): the moves from r by a.
 pub fn duplicator_steps(g: Arena, begins: &[usize], b: usize, q: usize, r: usize, a: usize) -> Steps
     requires { ⌜ (g .states ≤ mostStates) × (g .letters ≤ mostLetters) ⌝ }
-    requires { ⌜ (b < 2) × (q < g .states) × (r < g .states) × (a < g .letters) ⌝ }
+    requires { ⌜ (b < layers (g .mode)) × (q < g .states) × (r < g .states) × (a < g .letters) ⌝ }
     requires { ⌜ g .states * g .letters < length (now begins) ⌝ }
     ensures { λ s. ⌜ s ≡ duplicatorSteps g (now (begins .entry)) b q r a ⌝ }
 {
@@ -114,7 +115,7 @@ pub fn duplicator_steps(g: Arena, begins: &[usize], b: usize, q: usize, r: usize
         lo: begins[key],
         hi: begins[key + 1],
         plain: base + b * square,
-        marked: base + met(mode, b) * square,
+        marked: base + eased_bit(mode, b) * square,
         stride: 1,
         step: 0,
     }

@@ -1,16 +1,16 @@
 -- `table::lift_in` meets its contract: refusals 10 and 11 are decided before the lift writes.
 use mathlib.Core.Path.{_≡_, sym, ap, _∙_}
 use mathlib.Core.List.{List}
-use Prim.Native.Nat.{ℕ}
+use Prim.Native.Nat.{ℕ, _≤_}
 use native.Mathlib.Omega.{arith}
 use borrow.Author.Needs.{needs}
 use lib.ListN.{length}
 use Rattle.games.specs.Game.{Game}
-use Rattle.automaton.specs.Answer.{valued}
+use Rattle.automaton.specs.Answer.{valued, none}
 use Rattle.automaton.specs.First.{first}
 use Rattle.arena.specs.Arena.{boardIn, gameIn}
-use Rattle.table.specs.Calls.{above, lifted}
-use Rattle.table.proofs.Effects.{lifted-above, lifted-out, lifted-in}
+use Rattle.table.specs.Calls.{above, entryFault, lifted}
+use Rattle.table.proofs.Effects.{above-found, above-none, lifted-above, lifted-out, lifted-in}
 use Rattle.table.proofs.Keys.{indexable}
 use Rattle.table.proofs.Opening.{both}
 use Rattle.table.proofs.lift_in.Statement.{statement}
@@ -32,6 +32,9 @@ tested c = c .before .before .before .before .before .before .before .before
 found : (c : tie.After-first-above) → c .first-above .result ≡ first (above (game c .T) (table c)) 0 (length (table c))
 found c = c .first-above .ensures ∙ ap (λ (T : ℕ). first (above T (table c)) 0 (length (table c))) (begun c .pre .topped)
 
+passed : (c : tie.After-first-above) → length (table c) ≤ c .first-above .result → entryFault (game c) (table c) ≡ none
+passed c h = above-none (game c) (table c) (c .first-above .result) (found c) h
+
 first-above-requires : tie.Need-first-above-requires
 first-above-requires c κs = search needs
 
@@ -41,7 +44,7 @@ same-length c = search needs
 returns : tie.Need-returns
 returns c =
     let at = c .before in
-    both (sym (lifted-above (game at) (table at) (at .first-above .result) (found at) (begun at .args .position) (omega (arith, c .if1 .taken))))
+    both (sym (lifted-above (game at) (table at) _ (begun at .args .position) (above-found (game at) (table at) (at .first-above .result) (found at) (omega (arith, c .if1 .taken)))))
 
 same-length-2 : tie.Need-same-length-2
 same-length-2 c = search needs
@@ -49,7 +52,7 @@ same-length-2 c = search needs
 returns-2 : tie.Need-returns-2
 returns-2 c =
     let at = c .before .before in
-    both (sym (lifted-out (game at) (table at) (at .first-above .result) (found at) (begun at .args .position) (omega (arith, c .before .if1 .left)) (omega (arith, c .if2 .taken, begun at .pre .entries))))
+    both (sym (lifted-out (game at) (table at) (begun at .args .position) (passed at (omega (arith, c .before .if1 .left))) (omega (arith, c .if2 .taken, begun at .pre .entries))))
 
 slice-aggregate-fill : tie.Need-slice-aggregate-fill
 slice-aggregate-fill c = search needs
@@ -74,7 +77,7 @@ done : (c : tie.After-lift) → lifted (game (tested c)) (table (tested c)) (beg
 done c =
     let inside = c .before .before .before .before .before .before in
     let at = tested c in
-    let e = lifted-in (game at) (table at) (at .first-above .result) (found at) (begun at .args .position) (omega (arith, inside .before .if1 .left)) (omega (arith, inside .if2 .left, begun at .pre .entries)) in
+    let e = lifted-in (game at) (table at) (begun at .args .position) (passed at (omega (arith, inside .before .if1 .left))) (omega (arith, inside .if2 .left, begun at .pre .entries)) in
     e ∙ (λ i. record { answer = valued (sym (c .lift .ensures .0) i); table = sym (c .lift .ensures .1) i })
 
 same-length-3 : tie.Need-same-length-3

@@ -8,11 +8,10 @@ use Rattle.games.specs.Game.{Game}
 use Rattle.arena.specs.declared.Arena.{Arena}
 use Rattle.arena.specs.declared.Opened.the-variants.{Open}
 use Rattle.arena.specs.Job.{Job, jobOf, gameOf}
-use Rattle.table.specs.Effect.{Effect}
+use Rattle.automaton.specs.Answer.{Fault, unless}
 use Rattle.arena.specs.Arena.{opened, Ready}
 use Rattle.table.specs.Calls.{rested, resting}
-use Rattle.arena.proofs.Open.{open-ready, open-game}
-use Rattle.table.proofs.Opening.{shut-effect, open-effect}
+use Rattle.arena.proofs.Open.{shut-fault, open-fault, open-ready, open-game}
 use Rattle.table.proofs.rest.Statement.{statement}
 use Rattle.table.proofs.rest.Tie as tie
 
@@ -35,10 +34,6 @@ is-open c = sym (c .before .before .for-table .ensures) ∙ c .opened2 .given .1
 ready : (c : tie.After-opened2) → let s = begun (c .before .before) in Ready (arena c) (s .args .marks .now) (s .args .moves .now) (s .args .table .now)
 ready c = open-ready (job (c .before .before)) (table (c .before .before)) (arena c) (is-open c)
 
--- what rest does where nothing of 1 to 9 is at fault: it writes nothing
-abbrev told : Job → List ℕ → Effect
-told j t = record { answer = rested (gameOf j) t; table = t }
-
 for-table-requires : tie.Need-for-table-requires
 for-table-requires c κs = search needs
 
@@ -55,7 +50,7 @@ returns : tie.Need-returns
 unfolding resting
 returns c =
     let at = c .before .before .before in
-    sym (ap (λ (x : Effect). x .answer) (shut-effect (job at) (table at) (c .before .opened .given .0 .0) (sym (at .for-table .ensures) ∙ c .before .opened .given .1) (told (job at) (table at))))
+    sym (ap (λ (f : Fault). unless f (rested (gameOf (job at)) (table at))) (shut-fault (job at) (table at) (c .before .opened .given .0 .0) (sym (at .for-table .ensures) ∙ c .before .opened .given .1)))
 
 returns-2 : tie.Need-returns-2
 unfolding resting
@@ -65,7 +60,7 @@ returns-2 c =
     let t = table (o .before .before) in
     c .rest-in .ensures
     ∙ ap (λ (g : Game). rested g t) (sym (open-game j t (arena o) (is-open o)))
-    ∙ sym (ap (λ (x : Effect). x .answer) (open-effect j t (arena o) (is-open o) (told j t)))
+    ∙ sym (ap (λ (f : Fault). unless f (rested (gameOf j) t)) (open-fault j t (arena o) (is-open o)))
 
 pub rest-spec : {M : Type 1} → statement M
 rest-spec =

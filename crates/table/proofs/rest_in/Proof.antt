@@ -10,7 +10,7 @@ use Rattle.games.specs.Game.{Game}
 use Rattle.automaton.specs.First.{first}
 use Rattle.arena.specs.Arena.{boardIn, gameIn}
 use Rattle.table.specs.Calls.{above, restless, restAt, rested}
-use Rattle.table.proofs.Effects.{rested-above, rested-at}
+use Rattle.table.proofs.Effects.{above-found, above-none, rested-above, rested-at}
 use Rattle.table.proofs.Keys.{indexable}
 use Rattle.table.proofs.rest_in.Statement.{statement}
 use Rattle.table.proofs.rest_in.Tie as tie
@@ -37,7 +37,8 @@ answered c =
     let at = tested c in
     let P : length (table at) ≡ game at .P = begun at .pre .entries in
     let lowest = c .first-restless .ensures ∙ ap (λ (n : ℕ). first (restless (game at) (table at)) 0 n) P in
-    rested-at (game at) (table at) (at .first-above .result) (found at) (c .first-restless .result) (omega (arith, c .before .before .before .before .before .if1 .left)) lowest
+    rested-at (game at) (table at) (c .first-restless .result)
+    (above-none (game at) (table at) (at .first-above .result) (found at) (omega (arith, c .before .before .before .before .before .if1 .left))) lowest
 
 first-above-requires : tie.Need-first-above-requires
 first-above-requires c κs = search needs
@@ -45,7 +46,7 @@ first-above-requires c κs = search needs
 returns : tie.Need-returns
 returns c =
     let at = c .before in
-    sym (rested-above (game at) (table at) (at .first-above .result) (found at) (omega (arith, c .if1 .taken)))
+    sym (rested-above (game at) (table at) _ (above-found (game at) (table at) (at .first-above .result) (found at) (omega (arith, c .if1 .taken))))
 
 slice-aggregate-fill : tie.Need-slice-aggregate-fill
 slice-aggregate-fill c = search needs

@@ -1,11 +1,11 @@
 -- `table::asked::duplicator_asks` meets its contract: the stretch that is scanned leads to the positions one step on.
 use mathlib.Core.Path.{_≡_, sym, ap, _∙_, subst}
-use Prim.Native.Nat.{ℕ, _<_}
+use Prim.Native.Nat.{ℕ}
 use native.Mathlib.Omega.{arith}
 use lib.ListN.{length}
 use Rattle.games.specs.Game.{at, ask, lowest}
 use Rattle.simulation.specs.Position.{duplicator}
-use Rattle.simulation.proofs.Limits.{layers-most, positions-most}
+use Rattle.simulation.proofs.Limits.{positions-most}
 use Rattle.table.specs.declared.steps.Steps.{Steps}
 use Rattle.arena.specs.Arena.{boardIn}
 use Rattle.table.specs.Asked.{onward}
@@ -37,8 +37,7 @@ duplicator-steps-requires : tie.Need-duplicator-steps-requires
 duplicator-steps-requires c κs =
     let at = c .before .before .before .before in
     let (R, (I, (hb, hq, hr, ha))) = at .pre in
-    let bit : at .args .b < 2 = omega (arith, layers-most (at .args .g .mode)) in
-    ((R .formed .few, R .formed .few-letters), ((bit, hq, hr, ha), I .keys))
+    ((R .formed .few, R .formed .few-letters), ((hb, hq, hr, ha), I .keys))
 
 low-requires : tie.Need-low-requires
 low-requires c κs =

@@ -1,11 +1,11 @@
 -- `table::asked::high_from` meets its contract: the stretch that is scanned leads to the positions one step on.
 use mathlib.Core.Path.{_≡_, sym, ap, _∙_, subst}
-use Prim.Native.Nat.{_≤_, _<_}
+use Prim.Native.Nat.{_≤_}
 use native.Mathlib.Omega.{arith}
 use lib.ListN.{length}
 use Rattle.games.specs.Game.{at, highest}
 use Rattle.simulation.specs.Position.{spoiler}
-use Rattle.simulation.proofs.Limits.{layers-most, pairs-most, positions-most}
+use Rattle.simulation.proofs.Limits.{pairs-most, positions-most}
 use Rattle.table.specs.declared.steps.Steps.{Steps}
 use Rattle.arena.specs.Arena.{boardIn}
 use Rattle.table.specs.Asked.{onward}
@@ -38,8 +38,7 @@ spoiler-steps-requires c κs =
     let at = c .before .before .before .before in
     let (R, (I, (hb, hq, hr))) = at .pre in
     let few : at .args .g .pairs ≤ 8192 = omega (arith, R .paired, pairs-most (boardIn (at .args .g) (at .args .marks .now) (at .args .moves .now)) (at .args .g .mode) (R .formed .few)) in
-    let bit : at .args .b < 2 = omega (arith, layers-most (at .args .g .mode)) in
-    ((R .formed .few, R .formed .few-letters, few), ((bit, hq, hr), I .keys))
+    ((R .formed .few, R .formed .few-letters, few), ((hb, hq, hr), I .keys))
 
 high-requires : tie.Need-high-requires
 high-requires c κs =

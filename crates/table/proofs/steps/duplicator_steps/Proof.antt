@@ -1,9 +1,12 @@
 -- `table::steps::duplicator_steps` meets its contract: within the limits every product and sum is small, and the key is indexed.
+use mathlib.Core.Bool.{true}
 use Prim.Native.Nat.{ℕ, _+_, _*_, _≤_, _<_}
 use native.Mathlib.Omega.{arith}
 use borrow.Author.Needs.{needs}
 use lib.ListN.{length}
-use Rattle.table.proofs.Bounds.{row-within, row-most, square-most, layer-most, eased-bit}
+use Rattle.simulation.proofs.Inward.{eased-lt}
+use Rattle.simulation.proofs.Limits.{layers-most}
+use Rattle.table.proofs.Bounds.{row-within, row-most, square-most, layer-most}
 use Rattle.table.proofs.steps.duplicator_steps.Statement.{statement}
 use Rattle.table.proofs.steps.duplicator_steps.Tie as tie
 
@@ -23,6 +26,10 @@ module _ (c : tie.Start) where
   layer : (b : ℕ) → b < 2 → b * (n * n) ≤ 4096
   layer = layer-most n k (c .pre .0 .0) (c .pre .0 .1)
 
+  -- b is a bit
+  two : c .args .b < 2
+  two = omega (arith, layers-most (c .args .g .mode))
+
   -- the key and the next are indexed
   within : c .args .r * k + c .args .a + 1 < length (c .args .begins .now)
   within = omega (arith, row-within n k (c .args .r) (omega arith))
@@ -30,8 +37,10 @@ module _ (c : tie.Start) where
 abbrev begun : tie.After-shared-slice-known3 → tie.Start
 begun c = c .before .before .before
 
-bit : (c : tie.After-met) → c .met .result < 2
-bit c = rw (c .met .ensures) (eased-bit (begun (c .before) .args .g .mode) (begun (c .before) .args .b) (omega arith))
+bit : (c : tie.After-eased-bit) → c .eased-bit .result < 2
+bit c =
+    let s = begun (c .before) in
+    omega (arith, c .eased-bit .ensures, layers-most (s .args .g .mode), eased-lt (s .args .g .mode) true (s .args .b) (s .pre .1 .0 .0))
 
 mul-key : tie.Need-mul-key
 mul-key c = omega (arith, row (c .before))
@@ -61,26 +70,26 @@ shared-slice-read-t19 : tie.Need-shared-slice-read-t19
 shared-slice-read-t19 c = omega (arith, within (begun c))
 
 mul-t20 : tie.Need-mul-t20
-mul-t20 c = omega (arith, layer (begun c) (begun c .args .b) (omega arith))
+mul-t20 c = omega (arith, layer (begun c) (begun c .args .b) (two (begun c)))
 
 add-t21 : tie.Need-add-t21
 add-t21 c =
     let at = begun c in
-    omega (arith, square at (at .args .q) (omega arith), layer at (at .args .b) (omega arith))
+    omega (arith, square at (at .args .q) (omega arith), layer at (at .args .b) (two at))
 
-met-requires : tie.Need-met-requires
-met-requires c κs = search needs
+eased-bit-requires : tie.Need-eased-bit-requires
+eased-bit-requires c κs = search needs
 
 mul-t23 : tie.Need-mul-t23
-mul-t23 c = omega (arith, layer (begun (c .before)) (c .met .result) (bit c))
+mul-t23 c = omega (arith, layer (begun (c .before)) (c .eased-bit .result) (bit c))
 
 add-t24 : tie.Need-add-t24
 add-t24 c =
     let at = begun (c .before) in
-    omega (arith, square at (at .args .q) (omega arith), layer at (c .met .result) (bit c))
+    omega (arith, square at (at .args .q) (omega arith), layer at (c .eased-bit .result) (bit c))
 
 returns : tie.Need-returns
-returns c = simp (c .met .ensures)
+returns c = simp (c .eased-bit .ensures)
 
 pub duplicator-steps-spec : {M : Type 1} → statement M
 duplicator-steps-spec =
@@ -97,7 +106,7 @@ duplicator-steps-spec =
     shared-slice-read-t19
     mul-t20
     add-t21
-    met-requires
+    eased-bit-requires
     mul-t23
     add-t24
     returns)

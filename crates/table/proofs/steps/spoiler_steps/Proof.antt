@@ -1,9 +1,12 @@
 -- `table::steps::spoiler_steps` meets its contract: within the limits every product and sum is small, and q's row of keys is indexed.
+use mathlib.Core.Bool.{true}
 use Prim.Native.Nat.{ℕ, _+_, _*_, _≤_, _<_}
 use native.Mathlib.Omega.{arith}
 use borrow.Author.Needs.{needs}
 use lib.ListN.{length}
-use Rattle.table.proofs.Bounds.{row-within, row-most, square-most, layer-most, block-most, pended-bit}
+use Rattle.simulation.proofs.Inward.{pended-lt}
+use Rattle.simulation.proofs.Limits.{layers-most}
+use Rattle.table.proofs.Bounds.{row-within, row-most, square-most, layer-most, block-most}
 use Rattle.table.proofs.steps.spoiler_steps.Statement.{statement}
 use Rattle.table.proofs.steps.spoiler_steps.Tie as tie
 
@@ -26,6 +29,10 @@ module _ (c : tie.Start) where
   block : (b : ℕ) → b < 2 → b * (n * n) * k ≤ 65536
   block = block-most n k (c .pre .0 .0) (c .pre .0 .1)
 
+  -- b is a bit
+  two : c .args .b < 2
+  two = omega (arith, layers-most (c .args .g .mode))
+
   -- both ends of q's row of keys are indexed
   within : c .args .q * k + k < length (c .args .begins .now)
   within = omega (arith, row-within n k (c .args .q) (omega arith))
@@ -33,8 +40,10 @@ module _ (c : tie.Start) where
 abbrev begun : tie.After-shared-slice-known3 → tie.Start
 begun c = c .before .before .before .before
 
-bit : (c : tie.After-pending) → c .pending .result < 2
-bit c = rw (c .pending .ensures) (pended-bit (begun (c .before) .args .g .mode) (begun (c .before) .args .b) (omega arith))
+bit : (c : tie.After-pended-bit) → c .pended-bit .result < 2
+bit c =
+    let s = begun (c .before) in
+    omega (arith, c .pended-bit .ensures, layers-most (s .args .g .mode), pended-lt (s .args .g .mode) true (s .args .b) (s .pre .1 .0 .0))
 
 mul-row : tie.Need-mul-row
 mul-row c = omega (arith, row (c .before) (c .before .args .q) (omega arith))
@@ -64,35 +73,35 @@ shared-slice-read-t18 : tie.Need-shared-slice-read-t18
 shared-slice-read-t18 c = omega (arith, within (begun c))
 
 mul-t19 : tie.Need-mul-t19
-mul-t19 c = omega (arith, layer (begun c) (begun c .args .b) (omega arith))
+mul-t19 c = omega (arith, layer (begun c) (begun c .args .b) (two (begun c)))
 
 mul-t20 : tie.Need-mul-t20
-mul-t20 c = omega (arith, block (begun c) (begun c .args .b) (omega arith))
+mul-t20 c = omega (arith, block (begun c) (begun c .args .b) (two (begun c)))
 
 add-t21 : tie.Need-add-t21
 add-t21 c =
     let at = begun c in
-    omega (arith, row at (at .args .r) (omega arith), block at (at .args .b) (omega arith))
+    omega (arith, row at (at .args .r) (omega arith), block at (at .args .b) (two at))
 
-pending-requires : tie.Need-pending-requires
-pending-requires c κs = search needs
+pended-bit-requires : tie.Need-pended-bit-requires
+pended-bit-requires c κs = search needs
 
 mul-t23 : tie.Need-mul-t23
-mul-t23 c = omega (arith, layer (begun (c .before)) (c .pending .result) (bit c))
+mul-t23 c = omega (arith, layer (begun (c .before)) (c .pended-bit .result) (bit c))
 
 mul-t24 : tie.Need-mul-t24
-mul-t24 c = omega (arith, block (begun (c .before)) (c .pending .result) (bit c))
+mul-t24 c = omega (arith, block (begun (c .before)) (c .pended-bit .result) (bit c))
 
 add-t25 : tie.Need-add-t25
 add-t25 c =
     let at = begun (c .before) in
-    omega (arith, row at (at .args .r) (omega arith), block at (c .pending .result) (bit c))
+    omega (arith, row at (at .args .r) (omega arith), block at (c .pended-bit .result) (bit c))
 
 mul-t26 : tie.Need-mul-t26
 mul-t26 c = let at = begun (c .before) in omega (arith, row at (at .args .g .states) (omega arith))
 
 returns : tie.Need-returns
-returns c = simp (c .pending .ensures)
+returns c = simp (c .pended-bit .ensures)
 
 pub spoiler-steps-spec : {M : Type 1} → statement M
 spoiler-steps-spec =
@@ -110,7 +119,7 @@ spoiler-steps-spec =
     mul-t19
     mul-t20
     add-t21
-    pending-requires
+    pended-bit-requires
     mul-t23
     mul-t24
     add-t25
