@@ -1,4 +1,4 @@
--- What a call does that opened an arena, or did not.
+-- What a call on a table does, by whether `for_table` opened an arena for it.
 use mathlib.Core.Path.{_≡_, ap}
 use mathlib.Core.List.{List}
 use Prim.Native.Nat.{ℕ}
