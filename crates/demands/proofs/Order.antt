@@ -14,7 +14,7 @@ use Rattle.arena.specs.Job.{Job, gameOf}
 use Rattle.table.specs.Effect.{Effect}
 use Rattle.arena.specs.Refusals.{Proper, Fitting}
 use Rattle.table.specs.Calls.{lifting}
-use Rattle.table.proofs.Accepted.{lift-accepted, lift-refused, lift-does, lift-beyond, lift-value}
+use Rattle.table.proofs.Accepted.{lift-accepted, lift-refused, lift-does, lift-beyond}
 use Rattle.demands.specs.Order.{Call, due, stray, part, lent, restored, between, effect, Orderly, AllOrderly, after, raised, duePositions}
 
 -- a table of the one automaton and mode that lifting has filled
@@ -52,11 +52,10 @@ between-lent before behind p = ap (take (length p)) (drop-at before (p ++ behind
 stray-is : (j i : Job) (t before behind : List ℕ) (skip count v : ℕ) → Orderly j t (stray i before behind skip count v)
     → (effect j t (stray i before behind skip count v) .table ≡ t) × (value (effect j t (stray i before behind skip count v) .answer) ≡ 0)
 stray-is j i t before behind skip count v n =
-    let p = part skip count t in (
-      ap (λ (u : List ℕ). restored skip count t (between before p u)) (lift-refused i (lent before behind p) v n)
-          ∙ ap (restored skip count t) (between-lent before behind p)
-          ∙ put-same skip count t,
-      lift-value i (lent before behind p) v n,
+    let p = part skip count t in
+    let e = lift-refused i (lent before behind p) v n .1 in (
+      ap (λ (x : Effect). restored skip count t (between before p (x .table))) e ∙ ap (restored skip count t) (between-lent before behind p) ∙ put-same skip count t,
+      ap (λ (x : Effect). value (x .answer)) e,
     )
 
 -- Such are all calls with a malformed automaton, an unknown mode, or a table that has not P entries.

@@ -13,11 +13,11 @@ use Rattle.games.specs.Game.{Game, at}
 use Rattle.games.specs.Lift.{lift, rise, cleared, Capped}
 use Rattle.games.specs.Settle.{settle}
 use Rattle.automaton.specs.declared.Refusal.the-variants.{AboveCeiling, PositionNumber}
-use Rattle.automaton.specs.Answer.{Answer, accepted, valued, placed, value, refused, Fault, unless, none, fault, firstFault}
+use Rattle.automaton.specs.Answer.{Answer, accepted, valued, placed, refused, Fault, unless, none, fault, firstFault}
 use Rattle.automaton.proofs.Fault.{refusal-numbered, Line, fails-line, failsAt-line, _then_, end, table-line, unless-number, found}
 use Rattle.arena.specs.Job.{Job, gameOf}
 use Rattle.arena.specs.Refusals.{openFault, Fitting}
-use Rattle.table.specs.Effect.{Effect, does, opening}
+use Rattle.table.specs.Effect.{Effect, does, Refuses, opening}
 use Rattle.table.proofs.Effects.{lifted-in, lifted-out}
 use Rattle.table.specs.Calls.{above, entryFault, positionFault, clearing, lifted, lifting, restAt, rested, resting, settling}
 use Rattle.arena.proofs.Open.{open-line}
@@ -112,31 +112,20 @@ module _ (j : Job) (t : List ℕ) (v : ℕ) (f : Fitting j t) (c : Capped (gameO
 
 -- ---- refused
 
-does-kept : (f : Fault) (t : List ℕ) (e : Effect) → (e .answer .number ≢ 0 → e .table ≡ t) → does f t e .answer .number ≢ 0 → does f t e .table ≡ t
-does-kept none t e k n = k n
-does-kept (fault r) t e k n = refl
+does-refuse : (f : Fault) (t : List ℕ) (e : Effect) → (e .answer .number ≢ 0 → Refuses t e) → does f t e .answer .number ≢ 0 → Refuses t (does f t e)
+does-refuse none t e k n = k n
+does-refuse (fault r) t e k n = (r, refl)
 
-pub clear-refused : (j : Job) (t : List ℕ) → clearing j t .answer .number ≢ 0 → clearing j t .table ≡ t
+pub clear-refused : (j : Job) (t : List ℕ) → clearing j t .answer .number ≢ 0 → Refuses t (clearing j t)
 unfolding clearing
-clear-refused j t = does-kept (openFault j (length t)) t _ (λ n. absurd (n refl))
+clear-refused j t = does-refuse (openFault j (length t)) t _ (λ n. absurd (n refl))
 
-pub settle-refused : (j : Job) (t : List ℕ) → settling j t .answer .number ≢ 0 → settling j t .table ≡ t
+pub settle-refused : (j : Job) (t : List ℕ) → settling j t .answer .number ≢ 0 → Refuses t (settling j t)
 unfolding settling
-settle-refused j t = does-kept (openFault j (length t)) t _ (λ n. absurd (n refl))
+settle-refused j t = does-refuse (openFault j (length t)) t _ (λ n. absurd (n refl))
 
-pub lift-refused : (j : Job) (t : List ℕ) (v : ℕ) → lifting j t v .answer .number ≢ 0 → lifting j t v .table ≡ t
+pub lift-refused : (j : Job) (t : List ℕ) (v : ℕ) → lifting j t v .answer .number ≢ 0 → Refuses t (lifting j t v)
 unfolding lifting lifted
 lift-refused j t v =
-    does-kept (openFault j (length t)) t _
-    (does-kept (firstFault (entryFault (gameOf j) t ∷ positionFault (gameOf j) v ∷ [])) t _ (λ n. absurd (n refl)))
-
--- "values 0"
-does-zero : (f : Fault) (t : List ℕ) (e : Effect) → (e .answer .number ≢ 0 → value (e .answer) ≡ 0) → does f t e .answer .number ≢ 0 → value (does f t e .answer) ≡ 0
-does-zero none t e k n = k n
-does-zero (fault r) t e k n = refl
-
-pub lift-value : (j : Job) (t : List ℕ) (v : ℕ) → lifting j t v .answer .number ≢ 0 → value (lifting j t v .answer) ≡ 0
-unfolding lifting lifted
-lift-value j t v =
-    does-zero (openFault j (length t)) t _
-    (does-zero (firstFault (entryFault (gameOf j) t ∷ positionFault (gameOf j) v ∷ [])) t _ (λ n. absurd (n refl)))
+    does-refuse (openFault j (length t)) t _
+    (does-refuse (firstFault (entryFault (gameOf j) t ∷ positionFault (gameOf j) v ∷ [])) t _ (λ n. absurd (n refl)))

@@ -26,7 +26,7 @@ pub enum Turn {
 }
 
 // Spoiler's turn, by b and by whether Red's and Blue's states accept.
-pub fn turn_at(mode: Mode, b: usize, red: bool, blue: bool) -> Turn
+fn turn_at(mode: Mode, b: usize, red: bool, blue: bool) -> Turn
     requires { ⌜ b < 2 ⌝ }
     ensures { λ r. ⌜ kindIn r ≡ turn mode b red blue ⌝ }
 {
@@ -60,7 +60,7 @@ pub fn turn_at(mode: Mode, b: usize, red: bool, blue: bool) -> Turn
 }
 
 // High at Spoiler's (b, q, r).
-pub fn high_from(
+fn high_from(
     g: Arena,
     marks: &[u8],
     moves: &[u8],
@@ -80,7 +80,7 @@ pub fn high_from(
 }
 
 // What Spoiler's (b, q, r) asks for.
-pub fn spoiler_asks(
+fn spoiler_asks(
     g: Arena,
     marks: &[u8],
     moves: &[u8],
@@ -120,7 +120,7 @@ pub fn spoiler_asks(
 }
 
 // What Duplicator's (b, q, r, a) asks for: Low.
-pub fn duplicator_asks(
+fn duplicator_asks(
     g: Arena,
     marks: &[u8],
     moves: &[u8],

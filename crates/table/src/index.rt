@@ -20,7 +20,7 @@ pub fn wide(x: u8) -> usize
 }
 
 // The key of move i.
-pub fn key_of(letters: usize, moves: &[u8], i: usize) -> usize
+fn key_of(letters: usize, moves: &[u8], i: usize) -> usize
     requires { ⌜ letters ≤ mostLetters ⌝ }
     requires { ⌜ i * 3 + 2 < length (now moves) ⌝ }
     ensures { λ r. ⌜ r ≡ key letters (now (moves .entry)) i ⌝ }
@@ -30,7 +30,7 @@ pub fn key_of(letters: usize, moves: &[u8], i: usize) -> usize
 }
 
 // The first move from i on whose key is x or more, and the number of moves if there is none.
-pub fn reach(letters: usize, moves: &[u8], i: usize, x: usize) -> usize
+fn reach(letters: usize, moves: &[u8], i: usize, x: usize) -> usize
     requires { ⌜ letters ≤ mostLetters ⌝ }
     requires { ⌜ i ≤ length (now moves) / 3 ⌝ }
     ensures { λ r. ⌜ r ≡ first (λ j. leb x (key letters (now (moves .entry)) j)) i (length (now (moves .entry)) / 3 - i) ⌝ }

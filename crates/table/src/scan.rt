@@ -9,7 +9,7 @@ use super::steps::spot;
 
 // High: the greatest entry one step on, 0 if there is none.
 pub fn high(s: Steps, marks: &[u8], moves: &[u8], table: &[u32]) -> u32
-    requires { ⌜ length (now table) ≤ 4294967296 ⌝ }
+    requires { ⌜ length (now table) ≤ 139264 ⌝ }
     requires { ⌜ Leading s (now marks) (now moves) (length (now table)) ⌝ }
     ensures { λ r. ⌜ r ≡ highest (at (now (table .entry))) (ahead s (now (marks .entry)) (now (moves .entry))) ⌝ }
 {
@@ -28,7 +28,7 @@ pub fn high(s: Steps, marks: &[u8], moves: &[u8], table: &[u32]) -> u32
 
 // Low: the least entry one step on, top if there is none.
 pub fn low(s: Steps, marks: &[u8], moves: &[u8], table: &[u32], top: u32) -> u32
-    requires { ⌜ length (now table) ≤ 4294967296 ⌝ }
+    requires { ⌜ length (now table) ≤ 139264 ⌝ }
     requires { ⌜ Leading s (now marks) (now moves) (length (now table)) ⌝ }
     ensures { λ r. ⌜ r ≡ lowest top (at (now (table .entry))) (ahead s (now (marks .entry)) (now (moves .entry))) ⌝ }
 {

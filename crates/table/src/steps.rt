@@ -32,11 +32,11 @@ pub fn accepts(marks: &[u8], q: usize) -> bool
     marks[q] == 1
 }
 
-// The position that move i leads to. Positions are numbered in four bytes, so no sum wraps.
+// The position that move i leads to. P is at most 139,264, so no sum wraps.
 pub fn spot(s: Steps, marks: &[u8], moves: &[u8], i: usize) -> usize
     requires { ⌜ i * 3 + 2 < length (now moves) ⌝ }
     requires { ⌜ to (now moves) i < length (now marks) ⌝ }
-    requires { ⌜ spotOf s (now marks) (now moves) i < 4294967296 ⌝ }
+    requires { ⌜ spotOf s (now marks) (now moves) i < 139264 ⌝ }
     ensures { λ r. ⌜ r ≡ spotOf s (now (marks .entry)) (now (moves .entry)) i ⌝ }
 {
     let stride = s.stride;
@@ -52,7 +52,7 @@ pub fn spot(s: Steps, marks: &[u8], moves: &[u8], i: usize) -> usize
 }
 
 // The bit b after Red's move to an accepting state.
-pub fn pended_bit(mode: Mode, b: usize) -> usize
+fn pended_bit(mode: Mode, b: usize) -> usize
     ensures { λ r. ⌜ r ≡ pended mode true b ⌝ }
 {
     match mode {
@@ -64,7 +64,7 @@ pub fn pended_bit(mode: Mode, b: usize) -> usize
 }
 
 // The bit b after Blue's move to an accepting state.
-pub fn eased_bit(mode: Mode, b: usize) -> usize
+fn eased_bit(mode: Mode, b: usize) -> usize
     ensures { λ r. ⌜ r ≡ eased mode true b ⌝ }
 {
     match mode {

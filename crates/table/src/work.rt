@@ -12,7 +12,7 @@ use super::asked::asked;
 use arena::Arena;
 
 // Fills a stretch of a table with 0.
-pub fn fill(part: &mut [u32])
+fn fill(part: &mut [u32])
     ensures { λ _. ⌜ now (part .exit) ≡ replicate (length (now (part .entry))) 0 ⌝ }
 {
     let mut i = 0;
@@ -91,7 +91,7 @@ pub fn lift(
 }
 
 // Lifts every position once, in ascending order: how many of the lifts raised an entry.
-pub fn sweep(g: Arena, marks: &[u8], moves: &[u8], begins: &[usize], table: &mut [u32]) -> usize
+fn sweep(g: Arena, marks: &[u8], moves: &[u8], begins: &[usize], table: &mut [u32]) -> usize
     requires { ⌜ Ready g (now marks) (now moves) (now table) ⌝ }
     requires { ⌜ Indexed (g .states) (g .letters) (now moves) (now begins) ⌝ }
     ensures { λ r. ⌜ r ≡ raises (gameIn g (now (marks .entry)) (now (moves .entry))) (now (table .entry)) (sweep (gameIn g (now (marks .entry)) (now (moves .entry)))) ⌝ }

@@ -29,7 +29,7 @@ sum-is c =
     let letter = c .before .before .before .before .wide .ensures in
     simp (base-is c, c .before .accepts .ensures, goal, letter)
 
-small : (c : tie.Joined1) → sum c < 4294967296
+small : (c : tie.Joined1) → sum c < 139264
 small c = rw (sum-is c) (begun c .pre .1 .1)
 
 mul-at : tie.Need-mul-at
