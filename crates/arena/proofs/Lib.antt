@@ -1,3 +1,4 @@
 pub mod Open
+pub mod Opening
 pub mod Accepted
 pub mod One

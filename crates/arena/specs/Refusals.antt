@@ -11,6 +11,7 @@ use Rattle.automaton.specs.declared.Automaton.{Automaton}
 use Rattle.automaton.specs.declared.Named.the-variants.{Unknown}
 use Rattle.automaton.specs.declared.Refusal.the-variants.{ModeNumber, TableLength}
 use Rattle.automaton.specs.Answer.{Answer, valued, Fault, fails, firstFault, unless}
+use Rattle.automaton.specs.Effect.{Effect, does}
 use Rattle.automaton.specs.Board.{boardOf, Formed}
 use Rattle.automaton.specs.Check.{statesFault, lettersFault, automatonFault}
 use Rattle.automaton.specs.Limits.{nameOf}
@@ -32,6 +33,10 @@ lengthFault g entries = fails (not (eqb entries (g .P))) TableLength
 -- 1 to 9
 abbrev pub openFault : Job → (entries : ℕ) → Fault
 openFault j entries = firstFault (jobFault j ∷ lengthFault (gameOf j) entries ∷ [])
+
+-- a call on a table of so many entries: first the refusals 1 to 9, then what it does in the game
+abbrev pub opening : {X : Type 0} → Job → (entries : ℕ) → (lent : X) → Effect X → Effect X
+opening j entries x e = does (openFault j entries) x e
 
 -- ---- what a call must be given, for none of them to apply
 

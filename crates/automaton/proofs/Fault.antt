@@ -10,7 +10,7 @@ use borrow.Author.Tests.{ltb-false, le-ltb}
 use Rattle.automaton.specs.Answer.{Answer, numberOf, Fault, none, fault, fails, failsAt, firstFault, unless}
 use Rattle.automaton.specs.First.{first}
 use Rattle.automaton.specs.declared.Refusal.{Refusal}
-use Rattle.automaton.specs.declared.Refusal.the-variants.{States, Letters, Marks, Start, Bytes, Outside, Unsorted, ModeNumber, TableLength, AboveCeiling, PositionNumber}
+use Rattle.automaton.specs.declared.Refusal.the-variants.{States, Letters, Marks, Start, Bytes, Outside, Unsorted, ModeNumber, TableLength, AboveCeiling, PositionNumber, NotAtRest, SpoilerPosition, LostPosition, NoMove, OutputLength}
 use Rattle.automaton.proofs.First.{first-lowest, first-none}
 
 -- no refusal has the number 0
@@ -26,6 +26,11 @@ refusal-numbered ModeNumber = omega arith
 refusal-numbered TableLength = omega arith
 refusal-numbered (AboveCeiling i) = omega arith
 refusal-numbered PositionNumber = omega arith
+refusal-numbered (NotAtRest v) = omega arith
+refusal-numbered SpoilerPosition = omega arith
+refusal-numbered LostPosition = omega arith
+refusal-numbered NoMove = omega arith
+refusal-numbered OutputLength = omega arith
 
 -- a line of the table that finds no fault exactly if P holds
 abbrev pub Line : Fault → Type 0 → Type 0

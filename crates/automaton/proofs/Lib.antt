@@ -1,4 +1,5 @@
 pub mod First
 pub mod Fault
+pub mod Effects
 pub mod Sound
 pub mod One

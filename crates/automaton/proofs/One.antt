@@ -5,7 +5,7 @@ use native.Mathlib.Omega.{arith}
 use Rattle.automaton.specs.Answer.{Answer, accepted, refused, numberOf, placeOf, Fault, none, fault, unless}
 use Rattle.automaton.specs.Check.{answerOf}
 use Rattle.automaton.specs.declared.Refusal.{Refusal}
-use Rattle.automaton.specs.declared.Refusal.the-variants.{States, Letters, Marks, Start, Bytes, Outside, Unsorted, ModeNumber, TableLength, AboveCeiling, PositionNumber}
+use Rattle.automaton.specs.declared.Refusal.the-variants.{States, Letters, Marks, Start, Bytes, Outside, Unsorted, ModeNumber, TableLength, AboveCeiling, PositionNumber, NotAtRest, SpoilerPosition, LostPosition, NoMove, OutputLength}
 use Rattle.automaton.specs.declared.Checked.{Checked}
 use Rattle.automaton.specs.declared.Checked.the-variants.{Sound, Refused}
 use Rattle.automaton.proofs.Fault.{refusal-numbered, unless-number}
@@ -23,7 +23,12 @@ refusalAt (suc (suc (suc (suc (suc (suc (suc zero))))))) p = Unsorted p
 refusalAt (suc (suc (suc (suc (suc (suc (suc (suc zero)))))))) p = ModeNumber
 refusalAt (suc (suc (suc (suc (suc (suc (suc (suc (suc zero))))))))) p = TableLength
 refusalAt (suc (suc (suc (suc (suc (suc (suc (suc (suc (suc zero)))))))))) p = AboveCeiling p
-refusalAt (suc (suc (suc (suc (suc (suc (suc (suc (suc (suc (suc n))))))))))) p = PositionNumber
+refusalAt (suc (suc (suc (suc (suc (suc (suc (suc (suc (suc (suc zero))))))))))) p = PositionNumber
+refusalAt (suc (suc (suc (suc (suc (suc (suc (suc (suc (suc (suc (suc zero)))))))))))) p = NotAtRest p
+refusalAt (suc (suc (suc (suc (suc (suc (suc (suc (suc (suc (suc (suc (suc zero))))))))))))) p = SpoilerPosition
+refusalAt (suc (suc (suc (suc (suc (suc (suc (suc (suc (suc (suc (suc (suc (suc zero)))))))))))))) p = LostPosition
+refusalAt (suc (suc (suc (suc (suc (suc (suc (suc (suc (suc (suc (suc (suc (suc (suc zero))))))))))))))) p = NoMove
+refusalAt (suc (suc (suc (suc (suc (suc (suc (suc (suc (suc (suc (suc (suc (suc (suc (suc n)))))))))))))))) p = OutputLength
 
 refusalAt-is : (r : Refusal) → refusalAt (numberOf r) (placeOf r) ≡ r
 unfolding refusalAt
@@ -38,6 +43,11 @@ refusalAt-is ModeNumber = refl
 refusalAt-is TableLength = refl
 refusalAt-is (AboveCeiling i) = refl
 refusalAt-is PositionNumber = refl
+refusalAt-is (NotAtRest v) = refl
+refusalAt-is SpoilerPosition = refl
+refusalAt-is LostPosition = refl
+refusalAt-is NoMove = refl
+refusalAt-is OutputLength = refl
 
 pub one-refusal : (r s : Refusal) → refused r ≡ refused s → r ≡ s
 one-refusal r s e = sym (refusalAt-is r) ∙ ap (λ (a : Answer). refusalAt (a .number) (a .place)) e ∙ refusalAt-is s

@@ -6,7 +6,7 @@ use lib.Dec.{ltb}
 use lib.ListN.{getD}
 use Rattle.automaton.specs.First.{first}
 use Rattle.automaton.specs.declared.Refusal.{Refusal}
-use Rattle.automaton.specs.declared.Refusal.the-variants.{States, Letters, Marks, Start, Bytes, Outside, Unsorted, ModeNumber, TableLength, AboveCeiling, PositionNumber}
+use Rattle.automaton.specs.declared.Refusal.the-variants.{States, Letters, Marks, Start, Bytes, Outside, Unsorted, ModeNumber, TableLength, AboveCeiling, PositionNumber, NotAtRest, SpoilerPosition, LostPosition, NoMove, OutputLength}
 
 -- A number, a place and three values; a call that names fewer values has 0 for the others.
 pub record Answer : Type 0 where
@@ -43,6 +43,11 @@ numberOf ModeNumber = 8
 numberOf TableLength = 9
 numberOf (AboveCeiling i) = 10
 numberOf PositionNumber = 11
+numberOf (NotAtRest v) = 12
+numberOf SpoilerPosition = 13
+numberOf LostPosition = 14
+numberOf NoMove = 15
+numberOf OutputLength = 16
 
 abbrev pub placeOf : Refusal → ℕ
 placeOf States = 0
@@ -56,6 +61,11 @@ placeOf ModeNumber = 0
 placeOf TableLength = 0
 placeOf (AboveCeiling i) = i
 placeOf PositionNumber = 0
+placeOf (NotAtRest v) = v
+placeOf SpoilerPosition = 0
+placeOf LostPosition = 0
+placeOf NoMove = 0
+placeOf OutputLength = 0
 
 -- "Every refused call returns its number, a place and values 0"
 abbrev pub refused : Refusal → Answer

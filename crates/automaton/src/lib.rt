@@ -72,6 +72,11 @@ pub enum Refusal {
     TableLength,
     AboveCeiling(usize),
     PositionNumber,
+    NotAtRest(usize),
+    SpoilerPosition,
+    LostPosition,
+    NoMove,
+    OutputLength,
 }
 
 impl Refusal {
@@ -91,6 +96,11 @@ impl Refusal {
             Refusal::TableLength => 9,
             Refusal::AboveCeiling(_) => 10,
             Refusal::PositionNumber => 11,
+            Refusal::NotAtRest(_) => 12,
+            Refusal::SpoilerPosition => 13,
+            Refusal::LostPosition => 14,
+            Refusal::NoMove => 15,
+            Refusal::OutputLength => 16,
         }
     }
 
@@ -110,6 +120,11 @@ impl Refusal {
             Refusal::TableLength => 0,
             Refusal::AboveCeiling(at) => at,
             Refusal::PositionNumber => 0,
+            Refusal::NotAtRest(at) => at,
+            Refusal::SpoilerPosition => 0,
+            Refusal::LostPosition => 0,
+            Refusal::NoMove => 0,
+            Refusal::OutputLength => 0,
         }
     }
 }

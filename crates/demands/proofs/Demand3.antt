@@ -11,7 +11,7 @@ use Rattle.games.proofs.Lift as lifting-laws
 use Rattle.games.proofs.Raises as raising-laws
 use Rattle.games.proofs.Settle as settling-laws
 use Rattle.arena.specs.Job.{Job, gameOf}
-use Rattle.table.specs.Effect.{Effect}
+use Rattle.automaton.specs.Effect.{Effect}
 use Rattle.table.specs.Calls.{clearing, settling}
 use Rattle.table.proofs.Accepted.{clear-accepted, clear-does, settle-does}
 use Rattle.demands.specs.Order.{Call, AllOrderly, after, raised, duePositions}
@@ -19,34 +19,34 @@ use Rattle.demands.proofs.Order.{Held, after-lifts, held-after}
 
 -- An accepted `clear` of a lent table,
 module _ (j : Job) (lent : List ℕ) (accepted : clearing j lent .answer .number ≡ 0) where
-  start : clearing j lent .table ≡ cleared (gameOf j)
-  start = ap (λ (x : Effect). x .table) (clear-does j lent (clear-accepted j lent .0 accepted))
+  start : clearing j lent .left ≡ cleared (gameOf j)
+  start = ap (λ (x : Effect (List ℕ)). x .left) (clear-does j lent (clear-accepted j lent .0 accepted))
 
-  held : Held j (clearing j lent .table)
+  held : Held j (clearing j lent .left)
   held = subst (Held j) (sym start) (record { proper = clear-accepted j lent .0 accepted .0; entries = cleared-entries (gameOf j); capped = cleared-capped (gameOf j) })
 
   -- There is a least table at rest: the one that `settle` leaves.
-  pub settled-least : Least (gameOf j) (settling j lent .table)
+  pub settled-least : Least (gameOf j) (settling j lent .left)
   settled-least =
-      subst (Least (gameOf j)) (sym (ap (λ (x : Effect). x .table) (settle-does j lent (clear-accepted j lent .0 accepted)))) (settling-laws.settle-least (gameOf j))
+      subst (Least (gameOf j)) (sym (ap (λ (x : Effect (List ℕ)). x .left) (settle-does j lent (clear-accepted j lent .0 accepted)))) (settling-laws.settle-least (gameOf j))
 
   -- and orderly calls of `lift` after it.
-  module _ (cs : List Call) (orderly : AllOrderly j (clearing j lent .table) cs) where
+  module _ (cs : List Call) (orderly : AllOrderly j (clearing j lent .left) cs) where
     -- the table after the calls, and how many of them raised an entry
     abbrev table : List ℕ
-    table = after j (clearing j lent .table) cs
+    table = after j (clearing j lent .left) cs
 
     abbrev raises-so-far : ℕ
-    raises-so-far = raised j (clearing j lent .table) cs
+    raises-so-far = raised j (clearing j lent .left) cs
 
     table-is : table ≡ lifts (gameOf j) (cleared (gameOf j)) (duePositions cs)
-    table-is = after-lifts j cs (clearing j lent .table) held orderly .0 ∙ ap (λ (t : List ℕ). lifts (gameOf j) t (duePositions cs)) start
+    table-is = after-lifts j cs (clearing j lent .left) held orderly .0 ∙ ap (λ (t : List ℕ). lifts (gameOf j) t (duePositions cs)) start
 
     raises-are : raises-so-far ≡ raises (gameOf j) (cleared (gameOf j)) (duePositions cs)
-    raises-are = after-lifts j cs (clearing j lent .table) held orderly .1 ∙ ap (λ (t : List ℕ). raises (gameOf j) t (duePositions cs)) start
+    raises-are = after-lifts j cs (clearing j lent .left) held orderly .1 ∙ ap (λ (t : List ℕ). raises (gameOf j) t (duePositions cs)) start
 
     now-held : Held j table
-    now-held = held-after j cs (clearing j lent .table) held orderly
+    now-held = held-after j cs (clearing j lent .left) held orderly
 
     -- "No entry ever passes its value in the least table at rest."
     pub never-past : (least : List ℕ) → Least (gameOf j) least → (v : ℕ) → at table v ≤ at least v

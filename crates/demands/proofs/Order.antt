@@ -11,7 +11,7 @@ use Rattle.games.specs.Lift.{lift, lifts, rise, raises, Capped}
 use Rattle.games.proofs.Lift.{lift-entries, lift-out, lifts-entries, lifts-capped}
 use Rattle.automaton.specs.Answer.{value}
 use Rattle.arena.specs.Job.{Job, gameOf}
-use Rattle.table.specs.Effect.{Effect}
+use Rattle.automaton.specs.Effect.{Effect}
 use Rattle.arena.specs.Refusals.{Proper, Fitting}
 use Rattle.table.specs.Calls.{lifting}
 use Rattle.table.proofs.Accepted.{lift-accepted, lift-refused, lift-does, lift-beyond}
@@ -25,17 +25,17 @@ pub record Held (j : Job) (t : List ℕ) : Type 0 where
 
 module _ (j : Job) (t : List ℕ) (H : Held j t) where
   -- a due call lifts its position, or does nothing where that is out of range
-  due-is : (v : ℕ) → (lifting j t v .table ≡ lift (gameOf j) t v) × (value (lifting j t v .answer) ≡ rise (gameOf j) t v)
+  due-is : (v : ℕ) → (lifting j t v .left ≡ lift (gameOf j) t v) × (value (lifting j t v .answer) ≡ rise (gameOf j) t v)
   due-is v = go (decLt v (gameOf j .P))
     where
-      go : Dec (v < gameOf j .P) → (lifting j t v .table ≡ lift (gameOf j) t v) × (value (lifting j t v .answer) ≡ rise (gameOf j) t v)
+      go : Dec (v < gameOf j .P) → (lifting j t v .left ≡ lift (gameOf j) t v) × (value (lifting j t v .answer) ≡ rise (gameOf j) t v)
       go (yes h) =
           let e = lift-does j t v (H .proper, H .entries) (H .capped) h in
-          (ap (λ (x : Effect). x .table) e, ap (λ (x : Effect). value (x .answer)) e)
+          (ap (λ (x : Effect (List ℕ)). x .left) e, ap (λ (x : Effect (List ℕ)). value (x .answer)) e)
       go (no h) =
           let e = lift-beyond j t v (H .proper, H .entries) (H .capped) (omega arith) in
           let s = lift-out (gameOf j) t v (omega (arith, H .entries)) in
-          (ap (λ (x : Effect). x .table) e ∙ sym s, ap (λ (x : Effect). value (x .answer)) e ∙ rw s (omega arith))
+          (ap (λ (x : Effect (List ℕ)). x .left) e ∙ sym s, ap (λ (x : Effect (List ℕ)). value (x .answer)) e ∙ rw s (omega arith))
 
   held-lift : (v : ℕ) → Held j (lift (gameOf j) t v)
   held-lift v = record {
@@ -50,12 +50,12 @@ between-lent before behind p = ap (take (length p)) (drop-at before (p ++ behind
 
 -- a stray call that was refused leaves the table, and has the value 0
 stray-is : (j i : Job) (t before behind : List ℕ) (skip count v : ℕ) → Orderly j t (stray i before behind skip count v)
-    → (effect j t (stray i before behind skip count v) .table ≡ t) × (value (effect j t (stray i before behind skip count v) .answer) ≡ 0)
+    → (effect j t (stray i before behind skip count v) .left ≡ t) × (value (effect j t (stray i before behind skip count v) .answer) ≡ 0)
 stray-is j i t before behind skip count v n =
     let p = part skip count t in
     let e = lift-refused i (lent before behind p) v n .1 in (
-      ap (λ (x : Effect). restored skip count t (between before p (x .table))) e ∙ ap (restored skip count t) (between-lent before behind p) ∙ put-same skip count t,
-      ap (λ (x : Effect). value (x .answer)) e,
+      ap (λ (x : Effect (List ℕ)). restored skip count t (between before p (x .left))) e ∙ ap (restored skip count t) (between-lent before behind p) ∙ put-same skip count t,
+      ap (λ (x : Effect (List ℕ)). value (x .answer)) e,
     )
 
 -- Such are all calls with a malformed automaton, an unknown mode, or a table that has not P entries.

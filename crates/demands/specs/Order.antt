@@ -7,7 +7,7 @@ use Prim.Native.Nat.{ℕ, _+_}
 use lib.ListN.{length, take, drop}
 use Rattle.automaton.specs.Answer.{value}
 use Rattle.arena.specs.Job.{Job}
-use Rattle.table.specs.Effect.{Effect}
+use Rattle.automaton.specs.Effect.{Effect}
 use Rattle.table.specs.Calls.{lifting}
 
 -- one call of `lift`
@@ -33,12 +33,12 @@ abbrev pub between : (before part : List ℕ) → (all : List ℕ) → List ℕ
 between before p u = take (length p) (drop (length before) u)
 
 -- what a call answers and leaves
-abbrev pub effect : Job → (table : List ℕ) → Call → Effect
+abbrev pub effect : Job → (table : List ℕ) → Call → Effect (List ℕ)
 effect j t (due v) = lifting j t v
 effect j t (stray i before behind skip count v) =
     let p = part skip count t in
     let e = lifting i (lent before behind p) v in
-    record { answer = e .answer; table = restored skip count t (between before p (e .table)) }
+    record { answer = e .answer; left = restored skip count t (between before p (e .left)) }
 
 -- "refused calls among them": a stray call is one that is refused
 abbrev pub Orderly : Job → (table : List ℕ) → Call → Type 0
@@ -48,16 +48,16 @@ Orderly j t (stray i before behind skip count v) = lifting i (lent before behind
 -- calls one after another: whether all are orderly, the table after them, and how many raised an entry
 abbrev pub AllOrderly : Job → (table : List ℕ) → List Call → Type 0
 AllOrderly j t [] = Unit {0}
-AllOrderly j t (c ∷ cs) = Orderly j t c × AllOrderly j (effect j t c .table) cs
+AllOrderly j t (c ∷ cs) = Orderly j t c × AllOrderly j (effect j t c .left) cs
 
 abbrev pub after : Job → (table : List ℕ) → List Call → List ℕ
 after j t [] = t
-after j t (c ∷ cs) = after j (effect j t c .table) cs
+after j t (c ∷ cs) = after j (effect j t c .left) cs
 
 -- a lift whose entry rose has the value 1
 abbrev pub raised : Job → (table : List ℕ) → List Call → ℕ
 raised j t [] = 0
-raised j t (c ∷ cs) = value (effect j t c .answer) + raised j (effect j t c .table) cs
+raised j t (c ∷ cs) = value (effect j t c .answer) + raised j (effect j t c .left) cs
 
 -- the positions that the due calls lift
 abbrev pub duePositions : List Call → List ℕ

@@ -3,11 +3,12 @@ use mathlib.Core.Path.{refl}
 use Rattle.games.specs.Game.{ask, lowest, highest, full}
 use Rattle.games.specs.Lift.{lift}
 use Rattle.games.specs.Reply.{firstLeast}
+use Rattle.automaton.specs.First.{first}
 use Rattle.simulation.specs.Cases.{AllHold, cases, slips}
 
 pub worked : AllHold cases
-unfolding lift ask lowest highest full firstLeast
-worked = (refl, (refl, (refl, (refl, (refl, (refl, (refl, (refl, (refl, (refl, (refl, (refl, (refl, (refl, (refl, (refl, tt))))))))))))))))
+unfolding lift ask lowest highest full firstLeast first
+worked = (refl, (refl, (refl, (refl, (refl, (refl, (refl, (refl, (refl, (refl, (refl, (refl, (refl, (refl, (refl, (refl, (refl, (refl, (refl, (refl, (refl, (refl, tt))))))))))))))))))))))
 
 pub unslipped : AllHold slips
 unfolding lift ask lowest highest full firstLeast

@@ -8,6 +8,8 @@ use Rattle.games.specs.Play.{count}
 use Rattle.games.specs.Reply.{pick}
 use Rattle.games.specs.Settle.{Outcome, ascending, settle}
 use Rattle.automaton.specs.declared.Mode.{Mode}
+use Rattle.automaton.specs.declared.Refusal.the-variants.{SpoilerPosition, LostPosition, NoMove}
+use Rattle.automaton.specs.Answer.{Answer, valued, Fault, none, fault, fails, firstFault, unless}
 use Rattle.automaton.specs.Board.{Board}
 use Rattle.simulation.specs.Moves.{targets}
 use Rattle.simulation.specs.Position.{Position, spoiler, duplicator, number, position}
@@ -44,25 +46,31 @@ entryAfter B m t b q r′ = at t (number B m (reply B m b q r′))
 abbrev pub replies : Board → Mode → (table : List ℕ) → Choices
 replies B m t b q r a = pick (entryAfter B m t b q) (targets B r a)
 
--- the state for Blue, or the number of a refusal
-pub data Reply : Type 0 where
-  blue : ℕ → Reply
-  no : ℕ → Reply
+-- where Blue can move, and where it moves; at a Spoiler's position it is not Blue's turn
+abbrev pub blueMoves : Board → Position → List ℕ
+blueMoves B (spoiler b q r) = []
+blueMoves B (duplicator b q r a) = targets B r a
 
-abbrev pub lostOr : Bool → Reply → Reply
-lostOr true x = no 14
-lostOr false x = x
+abbrev pub blueReply : Board → Mode → (table : List ℕ) → Position → ℕ
+blueReply B m t (spoiler b q r) = 0
+blueReply B m t (duplicator b q r a) = replies B m t b q r a
 
--- "reply where the entry is below T and Blue has no move"
-abbrev pub someMove : (targets : List ℕ) → ℕ → Reply
-someMove [] r′ = no 15
-someMove (x ∷ xs) r′ = blue r′
+-- 13: "reply at a Spoiler position"
+abbrev pub turnFault : Position → Fault
+turnFault (spoiler b q r) = fault SpoilerPosition
+turnFault (duplicator b q r a) = none
 
--- "reply at a Spoiler position"; "reply at a lost position"
-abbrev pub replyOn : Board → Mode → (table : List ℕ) → (v : ℕ) → Position → Reply
-replyOn B m t v (spoiler b q r) = no 13
-replyOn B m t v (duplicator b q r a) = lostOr (leb (ceiling B m) (at t v)) (someMove (targets B r a) (replies B m t b q r a))
+-- 14: "reply at a lost position"
+abbrev pub lostFault : (T entry : ℕ) → Fault
+lostFault T entry = fails (leb T entry) LostPosition
 
--- the answer at position v of a table at rest
-abbrev pub replyAt : Board → Mode → (table : List ℕ) → (v : ℕ) → Reply
-replyAt B m t v = replyOn B m t v (position B m v)
+-- 15: "reply where the entry is below T and Blue has no move"
+abbrev pub moveFault : (targets : List ℕ) → Fault
+moveFault [] = fault NoMove
+moveFault (x ∷ xs) = none
+
+-- the answer at position v of a table at rest: refusals 13 to 15, else "the state for Blue"
+abbrev pub replyAt : Board → Mode → (table : List ℕ) → (v : ℕ) → Answer
+replyAt B m t v =
+    let p = position B m v in
+    unless (firstFault (turnFault p ∷ lostFault (ceiling B m) (at t v) ∷ moveFault (blueMoves B p) ∷ [])) (valued (blueReply B m t p))

@@ -1,4 +1,4 @@
--- "Small automata worked out": the cases marked p that speak of settled tables, relations and replies, as one list.
+-- "Small automata worked out": the cases marked p, as one list.
 use mathlib.Core.Path.{_≡_}
 use mathlib.Core.List.{List, [], _∷_}
 use Prim.Native.Nat.{ℕ}
@@ -7,10 +7,13 @@ use Rattle.games.specs.Game.{at}
 use Rattle.games.specs.Lift.{cleared, lifts}
 use Rattle.automaton.specs.declared.Mode.{Mode}
 use Rattle.automaton.specs.declared.Mode.the-variants.{Ordinary, Direct, Delayed, Fair}
+use Rattle.automaton.specs.declared.Refusal.the-variants.{SpoilerPosition}
+use Rattle.automaton.specs.Answer.{Answer, valued, refused}
 use Rattle.automaton.specs.Board.{Board}
 use Rattle.simulation.specs.Position.{pairs}
 use Rattle.simulation.specs.Rules.{ceiling, game}
-use Rattle.simulation.specs.Answers.{settled, relation, Reply, blue, no, replyAt}
+use Rattle.simulation.specs.Answers.{settled, relation, replyAt}
+use Rattle.simulation.specs.Quotient.{classOf, classCount, classBytes, markBytes, moveCount, moveBytes}
 
 -- "One letter each. A: 0 to 1, 1 to 0, accept 1."
 abbrev pub boardA : Board
@@ -42,13 +45,13 @@ relationOf B m = relation B m (tableOf B m)
 pub data Case : Type 0 where
   numbers : (given stated : List ℕ) → Case
   number : (given stated : ℕ) → Case
-  reply : (given stated : Reply) → Case
+  answers : (given stated : Answer) → Case
 
 abbrev pub AllHold : List Case → Type 0
 AllHold [] = Unit {0}
 AllHold (numbers x y ∷ cs) = (x ≡ y) × AllHold cs
 AllHold (number x y ∷ cs) = (x ≡ y) × AllHold cs
-AllHold (reply x y ∷ cs) = (x ≡ y) × AllHold cs
+AllHold (answers x y ∷ cs) = (x ≡ y) × AllHold cs
 
 abbrev pub cases : List Case
 cases =
@@ -71,9 +74,16 @@ cases =
     ∷ numbers (tableOf (alone 0) Delayed) (0 ∷ 1 ∷ 2 ∷ 2 ∷ [])
     ∷ numbers (tableOf (alone 1) Delayed) (0 ∷ 0 ∷ 1 ∷ 1 ∷ [])
     -- "p: A, mode 2, settled: reply at 15 is 0, at 8 is 1; at 7, refusal 13."
-    ∷ reply (replyAt boardA Delayed (tableOf boardA Delayed) 15) (blue 0)
-    ∷ reply (replyAt boardA Delayed (tableOf boardA Delayed) 8) (blue 1)
-    ∷ reply (replyAt boardA Delayed (tableOf boardA Delayed) 7) (no 13)
+    ∷ answers (replyAt boardA Delayed (tableOf boardA Delayed) 15) (valued 0)
+    ∷ answers (replyAt boardA Delayed (tableOf boardA Delayed) 8) (valued 1)
+    ∷ answers (replyAt boardA Delayed (tableOf boardA Delayed) 7) (refused SpoilerPosition)
+    -- "p: A, mode 2, quotient: classes 0 0; marks 1 255; moves 0 0 0 255 255 255; one class, one move, start 0."
+    ∷ numbers (classBytes boardA Delayed (tableOf boardA Delayed)) (0 ∷ 0 ∷ [])
+    ∷ numbers (markBytes boardA Delayed (tableOf boardA Delayed)) (1 ∷ 255 ∷ [])
+    ∷ numbers (moveBytes boardA Delayed (tableOf boardA Delayed)) (0 ∷ 0 ∷ 0 ∷ 255 ∷ 255 ∷ 255 ∷ [])
+    ∷ number (classCount boardA Delayed (tableOf boardA Delayed)) 1
+    ∷ number (moveCount boardA Delayed (tableOf boardA Delayed)) 1
+    ∷ number (classOf boardA Delayed (tableOf boardA Delayed) 0) 0
     -- the program's example on A: "raised 4"
     ∷ number (settled boardA Delayed .raised) 4
     ∷ []

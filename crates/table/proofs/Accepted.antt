@@ -17,10 +17,12 @@ use Rattle.automaton.specs.Answer.{Answer, accepted, valued, placed, refused, F
 use Rattle.automaton.proofs.Fault.{refusal-numbered, Line, fails-line, failsAt-line, _then_, end, table-line, unless-number, found}
 use Rattle.arena.specs.Job.{Job, gameOf}
 use Rattle.arena.specs.Refusals.{openFault, Fitting}
-use Rattle.table.specs.Effect.{Effect, does, Refuses, opening}
+use Rattle.automaton.specs.Effect.{Refuses}
+use Rattle.automaton.proofs.Effects.{unless-also, always, alone, does-number, does-refuse}
 use Rattle.table.proofs.Effects.{lifted-in, lifted-out}
 use Rattle.table.specs.Calls.{above, entryFault, positionFault, clearing, lifted, lifting, restAt, rested, resting, settling}
 use Rattle.arena.proofs.Open.{open-line}
+use Rattle.arena.proofs.Opening.{opening-does}
 
 -- ---- the lines 10 and 11
 
@@ -41,21 +43,6 @@ position-line : (g : Game) (v : ℕ) → Line (positionFault g v) (v < g .P)
 position-line g v = fails-line _ _ PositionNumber (leb-false (g .P) v, lt-leb (g .P) v)
 
 -- ---- accepted
-
--- an answer, and a call, unless something is at fault
-unless-also : (f : Fault) (a : Answer) (P Q : Type 0) → Line f P → (a .number ≡ 0) ↔ Q → (unless f a .number ≡ 0) ↔ (P × Q)
-unless-also none a P Q l q = (λ z. (l .0 refl, q .0 z), λ h. q .1 (h .1))
-unless-also (fault r) a P Q l q = (λ z. absurd (omega (arith, refusal-numbered r)), λ h. absurd (found (l .1 (h .0))))
-
-does-number : (f : Fault) (t : List ℕ) (e : Effect) (P Q : Type 0) → Line f P → (e .answer .number ≡ 0) ↔ Q → (does f t e .answer .number ≡ 0) ↔ (P × Q)
-does-number none t e = unless-also none (e .answer)
-does-number (fault r) t e = unless-also (fault r) (e .answer)
-
-always : (a : Answer) → a .number ≡ 0 → (a .number ≡ 0) ↔ Unit {0}
-always a z = (λ e. tt, λ e. z)
-
-alone : {P : Type 0} → (P × Unit {0}) ↔ P
-alone = (λ h. h .0, λ h. (h, tt))
 
 pub clear-accepted : (j : Job) (t : List ℕ) → (clearing j t .answer .number ≡ 0) ↔ Fitting j t
 unfolding clearing
@@ -89,32 +76,25 @@ rest-accepted j t =
 
 -- ---- what an accepted call does
 
-opening-does : (j : Job) (t : List ℕ) → Fitting j t → (e : Effect) → opening j t e ≡ e
-opening-does j t f e = ap (λ (k : Fault). does k t e) (open-line j t .1 f)
-
-pub clear-does : (j : Job) (t : List ℕ) → Fitting j t → clearing j t ≡ record { answer = accepted; table = cleared (gameOf j) }
+pub clear-does : (j : Job) (t : List ℕ) → Fitting j t → clearing j t ≡ record { answer = accepted; left = cleared (gameOf j) }
 unfolding clearing
-clear-does j t f = opening-does j t f (record { answer = accepted; table = cleared (gameOf j) })
+clear-does j t f = opening-does j t t (record { answer = accepted; left = cleared (gameOf j) }) f
 
-pub settle-does : (j : Job) (t : List ℕ) → Fitting j t → settling j t ≡ record { answer = valued (settle (gameOf j) .raised); table = settle (gameOf j) .table }
+pub settle-does : (j : Job) (t : List ℕ) → Fitting j t → settling j t ≡ record { answer = valued (settle (gameOf j) .raised); left = settle (gameOf j) .table }
 unfolding settling
-settle-does j t f = opening-does j t f (record { answer = valued (settle (gameOf j) .raised); table = settle (gameOf j) .table })
+settle-does j t f = opening-does j t t (record { answer = valued (settle (gameOf j) .raised); left = settle (gameOf j) .table }) f
 
 module _ (j : Job) (t : List ℕ) (v : ℕ) (f : Fitting j t) (c : Capped (gameOf j) t) where
-  pub lift-does : v < gameOf j .P → lifting j t v ≡ record { answer = valued (rise (gameOf j) t v); table = lift (gameOf j) t v }
+  pub lift-does : v < gameOf j .P → lifting j t v ≡ record { answer = valued (rise (gameOf j) t v); left = lift (gameOf j) t v }
   unfolding lifting
-  lift-does h = opening-does j t f (lifted (gameOf j) t v) ∙ lifted-in (gameOf j) t v (entry-line (gameOf j) t .1 c) h
+  lift-does h = opening-does j t t (lifted (gameOf j) t v) f ∙ lifted-in (gameOf j) t v (entry-line (gameOf j) t .1 c) h
 
   -- beyond the positions there is nothing to lift
-  pub lift-beyond : gameOf j .P ≤ v → lifting j t v ≡ record { answer = refused PositionNumber; table = t }
+  pub lift-beyond : gameOf j .P ≤ v → lifting j t v ≡ record { answer = refused PositionNumber; left = t }
   unfolding lifting
-  lift-beyond h = opening-does j t f (lifted (gameOf j) t v) ∙ lifted-out (gameOf j) t v (entry-line (gameOf j) t .1 c) h
+  lift-beyond h = opening-does j t t (lifted (gameOf j) t v) f ∙ lifted-out (gameOf j) t v (entry-line (gameOf j) t .1 c) h
 
 -- ---- refused
-
-does-refuse : (f : Fault) (t : List ℕ) (e : Effect) → (e .answer .number ≢ 0 → Refuses t e) → does f t e .answer .number ≢ 0 → Refuses t (does f t e)
-does-refuse none t e k n = k n
-does-refuse (fault r) t e k n = (r, refl)
 
 pub clear-refused : (j : Job) (t : List ℕ) → clearing j t .answer .number ≢ 0 → Refuses t (clearing j t)
 unfolding clearing

@@ -21,15 +21,15 @@ module _ (g : Game) (t : List ℕ) (w : ℕ) (e : w ≡ first (above (g .T) t) 0
   above-none h = simp (sym e, le-ltb w (length t) h)
 
 module _ (g : Game) (t : List ℕ) where
-  pub lifted-above : (r : Refusal) (v : ℕ) → entryFault g t ≡ fault r → lifted g t v ≡ record { answer = refused r; table = t }
+  pub lifted-above : (r : Refusal) (v : ℕ) → entryFault g t ≡ fault r → lifted g t v ≡ record { answer = refused r; left = t }
   unfolding lifted
   lifted-above r v e = simp e
 
-  pub lifted-out : (v : ℕ) → entryFault g t ≡ none → g .P ≤ v → lifted g t v ≡ record { answer = refused PositionNumber; table = t }
+  pub lifted-out : (v : ℕ) → entryFault g t ≡ none → g .P ≤ v → lifted g t v ≡ record { answer = refused PositionNumber; left = t }
   unfolding lifted
   lifted-out v e o = simp (e, le-leb (g .P) v o)
 
-  pub lifted-in : (v : ℕ) → entryFault g t ≡ none → v < g .P → lifted g t v ≡ record { answer = valued (rise g t v); table = lift g t v }
+  pub lifted-in : (v : ℕ) → entryFault g t ≡ none → v < g .P → lifted g t v ≡ record { answer = valued (rise g t v); left = lift g t v }
   unfolding lifted
   lifted-in v e i = simp (e, lt-leb (g .P) v i)
 

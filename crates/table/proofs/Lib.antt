@@ -3,7 +3,6 @@ pub mod Bounds
 pub mod Keys
 pub mod Ahead
 pub mod Stretch
-pub mod Opening
 pub mod Effects
 pub mod Accepted
 pub mod AtRest

@@ -11,8 +11,8 @@ use Rattle.automaton.specs.declared.Refusal.the-variants.{AboveCeiling, Positio
 use Rattle.automaton.specs.Answer.{Answer, accepted, valued, placed, Fault, fails, failsAt, firstFault, unless}
 use Rattle.automaton.specs.First.{first}
 use Rattle.arena.specs.Job.{Job, gameOf}
-use Rattle.arena.specs.Refusals.{openFault}
-use Rattle.table.specs.Effect.{Effect, does, opening}
+use Rattle.automaton.specs.Effect.{Effect, does}
+use Rattle.arena.specs.Refusals.{openFault, opening}
 
 -- ---- the refusals 10 and 11
 
@@ -30,15 +30,15 @@ positionFault g v = fails (leb (g .P) v) PositionNumber
 -- ---- the four calls
 
 -- "Clear: fill the table with 0."
-unfoldable pub clearing : Job → (table : List ℕ) → Effect
-clearing j t = opening j t (record { answer = accepted; table = cleared (gameOf j) })
+unfoldable pub clearing : Job → (table : List ℕ) → Effect (List ℕ)
+clearing j t = opening j (length t) t (record { answer = accepted; left = cleared (gameOf j) })
 
 -- "Lift one position: value 1 if the entry rose, else 0; no other entry changes."
-unfoldable pub lifted : Game → (table : List ℕ) → ℕ → Effect
-lifted g t v = does (firstFault (entryFault g t ∷ positionFault g v ∷ [])) t (record { answer = valued (rise g t v); table = lift g t v })
+unfoldable pub lifted : Game → (table : List ℕ) → ℕ → Effect (List ℕ)
+lifted g t v = does (firstFault (entryFault g t ∷ positionFault g v ∷ [])) t (record { answer = valued (rise g t v); left = lift g t v })
 
-unfoldable pub lifting : Job → (table : List ℕ) → ℕ → Effect
-lifting j t v = opening j t (lifted (gameOf j) t v)
+unfoldable pub lifting : Job → (table : List ℕ) → ℕ → Effect (List ℕ)
+lifting j t v = opening j (length t) t (lifted (gameOf j) t v)
 
 -- "A position is at rest when a lift would not raise it": one that is not
 abbrev pub restless : Game → (table : List ℕ) → ℕ → Bool
@@ -55,5 +55,5 @@ unfoldable pub resting : Job → (table : List ℕ) → Answer
 resting j t = unless (openFault j (length t)) (rested (gameOf j) t)
 
 -- "Settle: clear, then sweep positions in ascending order until a whole sweep raises nothing; value is the number of raises."
-unfoldable pub settling : Job → (table : List ℕ) → Effect
-settling j t = let o = settle (gameOf j) in opening j t (record { answer = valued (o .raised); table = o .table })
+unfoldable pub settling : Job → (table : List ℕ) → Effect (List ℕ)
+settling j t = let o = settle (gameOf j) in opening j (length t) t (record { answer = valued (o .raised); left = o .table })

@@ -24,7 +24,7 @@ tooHigh = 0 ∷ 0 ∷ 0 ∷ 4 ∷ zeros 12
 
 -- the table after lifting u and then v from the cleared one
 abbrev pub twoLifts : (u v : ℕ) → List ℕ
-twoLifts u v = lifting (jobA 2) (lifting (jobA 2) (zeros 16) u .table) v .table
+twoLifts u v = lifting (jobA 2) (lifting (jobA 2) (zeros 16) u .left) v .left
 
 -- what the definitions give, and what is stated
 pub data Case : Type 0 where
@@ -47,7 +47,7 @@ cases =
     -- the cleared table is not at rest, and 4 is the lowest position that shows it; the settled one is
     ∷ answers (resting (jobA 2) (zeros 16)) (placed 4)
     ∷ answers (settling (jobA 2) (zeros 16) .answer) (valued 4)
-    ∷ answers (resting (jobA 2) (settling (jobA 2) (zeros 16) .table)) (valued 1)
+    ∷ answers (resting (jobA 2) (settling (jobA 2) (zeros 16) .left)) (valued 1)
     -- "The lowest number that applies is given"
     ∷ answers (lifting (jobA 4) (zeros 15) 16 .answer) (refused ModeNumber)
     ∷ answers (lifting (jobA 2) (zeros 15) 16 .answer) (refused TableLength)

@@ -1,4 +1,3 @@
-pub mod Effect
 pub mod Calls
 pub mod Answers
 pub mod Index

@@ -46,7 +46,7 @@ pub enum Settled {
 // Fills the table with 0. Refusals 1 to 9.
 pub fn clear(a: Automaton, marks: &[u8], moves: &[u8], mode: usize, table: &mut [u32]) -> Cleared
     ensures { λ r. ⌜ ofCleared r ≡ clearing (jobOf a (now (marks .entry)) (now (moves .entry)) mode) (now (table .entry)) .answer ⌝ }
-    ensures { λ r. ⌜ now (table .exit) ≡ clearing (jobOf a (now (marks .entry)) (now (moves .entry)) mode) (now (table .entry)) .table ⌝ }
+    ensures { λ r. ⌜ now (table .exit) ≡ clearing (jobOf a (now (marks .entry)) (now (moves .entry)) mode) (now (table .entry)) .left ⌝ }
 {
     let opened = arena::for_table(a, marks, moves, mode, table.len());
     match opened {
@@ -68,7 +68,7 @@ pub fn lift(
     position: usize,
 ) -> Lifted
     ensures { λ r. ⌜ ofLifted r ≡ lifting (jobOf a (now (marks .entry)) (now (moves .entry)) mode) (now (table .entry)) position .answer ⌝ }
-    ensures { λ r. ⌜ now (table .exit) ≡ lifting (jobOf a (now (marks .entry)) (now (moves .entry)) mode) (now (table .entry)) position .table ⌝ }
+    ensures { λ r. ⌜ now (table .exit) ≡ lifting (jobOf a (now (marks .entry)) (now (moves .entry)) mode) (now (table .entry)) position .left ⌝ }
 {
     let opened = arena::for_table(a, marks, moves, mode, table.len());
     match opened {
@@ -81,7 +81,7 @@ pub fn lift(
 fn lift_in(g: Arena, marks: &[u8], moves: &[u8], table: &mut [u32], position: usize) -> Lifted
     requires { ⌜ Ready g (now marks) (now moves) (now table) ⌝ }
     ensures { λ r. ⌜ ofLifted r ≡ lifted (gameIn g (now (marks .entry)) (now (moves .entry))) (now (table .entry)) position .answer ⌝ }
-    ensures { λ r. ⌜ now (table .exit) ≡ lifted (gameIn g (now (marks .entry)) (now (moves .entry))) (now (table .entry)) position .table ⌝ }
+    ensures { λ r. ⌜ now (table .exit) ≡ lifted (gameIn g (now (marks .entry)) (now (moves .entry))) (now (table .entry)) position .left ⌝ }
 {
     let above = work::first_above(&table[..], g.top);
     if above < table.len() {
@@ -131,7 +131,7 @@ fn rest_in(g: Arena, marks: &[u8], moves: &[u8], table: &[u32]) -> Rested
 // Clears the table and sweeps it until a whole sweep raises nothing: the number of raises. Refusals 1 to 9.
 pub fn settle(a: Automaton, marks: &[u8], moves: &[u8], mode: usize, table: &mut [u32]) -> Settled
     ensures { λ r. ⌜ ofSettled r ≡ settling (jobOf a (now (marks .entry)) (now (moves .entry)) mode) (now (table .entry)) .answer ⌝ }
-    ensures { λ r. ⌜ now (table .exit) ≡ settling (jobOf a (now (marks .entry)) (now (moves .entry)) mode) (now (table .entry)) .table ⌝ }
+    ensures { λ r. ⌜ now (table .exit) ≡ settling (jobOf a (now (marks .entry)) (now (moves .entry)) mode) (now (table .entry)) .left ⌝ }
 {
     let opened = arena::for_table(a, marks, moves, mode, table.len());
     match opened {

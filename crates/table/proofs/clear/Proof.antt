@@ -12,11 +12,12 @@ use Rattle.simulation.proofs.Position.{positions-are}
 use Rattle.arena.specs.declared.Arena.{Arena}
 use Rattle.arena.specs.declared.Opened.the-variants.{Open}
 use Rattle.arena.specs.Job.{Job, jobOf, gameOf}
-use Rattle.table.specs.Effect.{Effect}
+use Rattle.automaton.specs.Effect.{Effect}
 use Rattle.table.specs.Calls.{clearing}
 use Rattle.arena.specs.Arena.{boardIn, opened, Ready}
 use Rattle.arena.proofs.Open.{open-ready, open-game}
-use Rattle.table.proofs.Opening.{both, shut-effect, open-effect}
+use Rattle.arena.proofs.Opening.{shut-effect, open-effect}
+use Rattle.automaton.proofs.Effects.{both}
 use Rattle.table.proofs.clear.Statement.{statement}
 use Rattle.table.proofs.clear.Tie as tie
 
@@ -34,8 +35,8 @@ abbrev arena : tie.After-opened2 → Arena
 arena c = c .opened2 .given .0 .0
 
 -- what clear does where nothing is at fault
-abbrev emptied : Job → Effect
-emptied j = record { answer = accepted; table = cleared (gameOf j) }
+abbrev emptied : Job → Effect (List ℕ)
+emptied j = record { answer = accepted; left = cleared (gameOf j) }
 
 is-open : (c : tie.After-opened2) → opened (job (c .before .before)) (length (table (c .before .before))) ≡ Open (arena c)
 is-open c = sym (c .before .before .for-table .ensures) ∙ c .opened2 .given .1
@@ -62,7 +63,7 @@ returns : tie.Need-returns
 unfolding clearing
 returns c =
     let at = c .before .before .before in
-    both (sym (shut-effect (job at) (table at) (c .before .opened .given .0 .0) (sym (at .for-table .ensures) ∙ c .before .opened .given .1) (emptied (job at))))
+    both (sym (shut-effect (job at) (table at) (table at) (emptied (job at)) (c .before .opened .given .0 .0) (sym (at .for-table .ensures) ∙ c .before .opened .given .1)))
 
 same-length : tie.Need-same-length
 same-length c = search needs
@@ -74,7 +75,7 @@ returns-2 c =
     let j = job (o .before .before) in
     let t = table (o .before .before) in
     let P : length t ≡ gameOf j .P = ready o .entries ∙ sym (ap (λ (g : Game). g .P) (open-game j t (arena o) (is-open o))) in
-    let e = both (sym (open-effect j t (arena o) (is-open o) (emptied j))) in
+    let e = both (sym (open-effect j t t (emptied j) (arena o) (is-open o))) in
     (e .0, c .before .before .clear .ensures ∙ ap (λ (n : ℕ). replicate n 0) P ∙ e .1)
 
 pub clear-spec : {M : Type 1} → statement M

@@ -11,7 +11,8 @@ use Rattle.arena.specs.Job.{Job, jobOf, gameOf}
 use Rattle.arena.specs.Arena.{opened, Ready}
 use Rattle.table.specs.Calls.{lifted, lifting}
 use Rattle.arena.proofs.Open.{open-ready, open-game}
-use Rattle.table.proofs.Opening.{both, shut-effect, open-effect}
+use Rattle.arena.proofs.Opening.{shut-effect, open-effect}
+use Rattle.automaton.proofs.Effects.{both}
 use Rattle.table.proofs.lift.Statement.{statement}
 use Rattle.table.proofs.lift.Tie as tie
 
@@ -50,7 +51,7 @@ returns : tie.Need-returns
 unfolding lifting
 returns c =
     let at = c .before .before .before in
-    both (sym (shut-effect (job at) (table at) (c .before .opened .given .0 .0) (sym (at .for-table .ensures) ∙ c .before .opened .given .1) (lifted (gameOf (job at)) (table at) (begun at .args .position))))
+    both (sym (shut-effect (job at) (table at) (table at) (lifted (gameOf (job at)) (table at) (begun at .args .position)) (c .before .opened .given .0 .0) (sym (at .for-table .ensures) ∙ c .before .opened .given .1)))
 
 same-length : tie.Need-same-length
 same-length c = search needs
@@ -63,7 +64,7 @@ returns-2 c =
     let j = job (o .before .before) in
     let t = table (o .before .before) in
     let v = begun (o .before .before) .args .position in
-    let e = both (ap (λ (g : Game). lifted g t v) (sym (open-game j t (arena o) (is-open o))) ∙ sym (open-effect j t (arena o) (is-open o) (lifted (gameOf j) t v))) in
+    let e = both (ap (λ (g : Game). lifted g t v) (sym (open-game j t (arena o) (is-open o))) ∙ sym (open-effect j t t (lifted (gameOf j) t v) (arena o) (is-open o))) in
     (done .lift-in .ensures .0 ∙ e .0, done .lift-in .ensures .1 ∙ e .1)
 
 pub lift-spec : {M : Type 1} → statement M

@@ -12,7 +12,7 @@ use Rattle.arena.specs.Arena.{boardIn, gameIn}
 use Rattle.table.specs.Calls.{above, entryFault, lifted}
 use Rattle.table.proofs.Effects.{above-found, above-none, lifted-above, lifted-out, lifted-in}
 use Rattle.table.proofs.Keys.{indexable}
-use Rattle.table.proofs.Opening.{both}
+use Rattle.automaton.proofs.Effects.{both}
 use Rattle.table.proofs.lift_in.Statement.{statement}
 use Rattle.table.proofs.lift_in.Tie as tie
 
@@ -73,12 +73,12 @@ lift-requires c κs =
 
 -- what the lift did, from the place after it
 done : (c : tie.After-lift) → lifted (game (tested c)) (table (tested c)) (begun (tested c) .args .position)
-    ≡ record { answer = valued (c .lift .result); table = c .lift .last .1 .1 .1 .1 .0 }
+    ≡ record { answer = valued (c .lift .result); left = c .lift .last .1 .1 .1 .1 .0 }
 done c =
     let inside = c .before .before .before .before .before .before in
     let at = tested c in
     let e = lifted-in (game at) (table at) (begun at .args .position) (passed at (omega (arith, inside .before .if1 .left))) (omega (arith, inside .if2 .left, begun at .pre .entries)) in
-    e ∙ (λ i. record { answer = valued (sym (c .lift .ensures .0) i); table = sym (c .lift .ensures .1) i })
+    e ∙ (λ i. record { answer = valued (sym (c .lift .ensures .0) i); left = sym (c .lift .ensures .1) i })
 
 same-length-3 : tie.Need-same-length-3
 same-length-3 c = search needs
@@ -86,7 +86,7 @@ same-length-3 c = search needs
 returns-3 : tie.Need-returns-3
 returns-3 c =
     let at = c .before .before .before in
-    both (ap (λ (n : ℕ). record { answer = valued n; table = at .lift .last .1 .1 .1 .1 .0 }) (sym (c .if3 .taken)) ∙ sym (done at))
+    both (ap (λ (n : ℕ). record { answer = valued n; left = at .lift .last .1 .1 .1 .1 .0 }) (sym (c .if3 .taken)) ∙ sym (done at))
 
 same-length-4 : tie.Need-same-length-4
 same-length-4 c = search needs
@@ -95,7 +95,7 @@ returns-4 : tie.Need-returns-4
 returns-4 c =
     let at = c .before .before .before in
     let none : at .lift .result ≡ 0 = omega (arith, at .lift .ensures .0, c .if3 .left) in
-    both (ap (λ (n : ℕ). record { answer = valued n; table = at .lift .last .1 .1 .1 .1 .0 }) (sym none) ∙ sym (done at))
+    both (ap (λ (n : ℕ). record { answer = valued n; left = at .lift .last .1 .1 .1 .1 .0 }) (sym none) ∙ sym (done at))
 
 pub lift-in-spec : {M : Type 1} → statement M
 lift-in-spec =

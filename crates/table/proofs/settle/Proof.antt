@@ -8,13 +8,14 @@ use Rattle.games.specs.Game.{Game}
 use Rattle.arena.specs.declared.Arena.{Arena}
 use Rattle.arena.specs.declared.Opened.the-variants.{Open}
 use Rattle.arena.specs.Job.{Job, jobOf, gameOf}
-use Rattle.table.specs.Effect.{Effect}
+use Rattle.automaton.specs.Effect.{Effect}
 use Rattle.arena.specs.Arena.{opened, Ready}
 use Rattle.games.specs.Settle.{settle}
 use Rattle.automaton.specs.Answer.{valued}
 use Rattle.table.specs.Calls.{settling}
 use Rattle.arena.proofs.Open.{open-ready, open-game}
-use Rattle.table.proofs.Opening.{both, shut-effect, open-effect}
+use Rattle.arena.proofs.Opening.{shut-effect, open-effect}
+use Rattle.automaton.proofs.Effects.{both}
 use Rattle.table.proofs.settle.Statement.{statement}
 use Rattle.table.proofs.settle.Tie as tie
 
@@ -38,8 +39,8 @@ ready : (c : tie.After-opened2) → let s = begun (c .before .before) in Ready (
 ready c = open-ready (job (c .before .before)) (table (c .before .before)) (arena c) (is-open c)
 
 -- what settle does in a game
-abbrev settled : Game → Effect
-settled g = record { answer = valued (settle g .raised); table = settle g .table }
+abbrev settled : Game → Effect (List ℕ)
+settled g = record { answer = valued (settle g .raised); left = settle g .table }
 
 for-table-requires : tie.Need-for-table-requires
 for-table-requires c κs = search needs
@@ -57,7 +58,7 @@ returns : tie.Need-returns
 unfolding settling
 returns c =
     let at = c .before .before .before in
-    both (sym (shut-effect (job at) (table at) (c .before .opened .given .0 .0) (sym (at .for-table .ensures) ∙ c .before .opened .given .1) (settled (gameOf (job at)))))
+    both (sym (shut-effect (job at) (table at) (table at) (settled (gameOf (job at))) (c .before .opened .given .0 .0) (sym (at .for-table .ensures) ∙ c .before .opened .given .1)))
 
 same-length : tie.Need-same-length
 same-length c = search needs
@@ -69,7 +70,7 @@ returns-2 c =
     let o = done .before .before .before in
     let j = job (o .before .before) in
     let t = table (o .before .before) in
-    let e = both (ap settled (sym (open-game j t (arena o) (is-open o))) ∙ sym (open-effect j t (arena o) (is-open o) (settled (gameOf j)))) in
+    let e = both (ap settled (sym (open-game j t (arena o) (is-open o))) ∙ sym (open-effect j t t (settled (gameOf j)) (arena o) (is-open o))) in
     (ap valued (done .settle-in .ensures .0) ∙ e .0, done .settle-in .ensures .1 ∙ e .1)
 
 pub settle-spec : {M : Type 1} → statement M

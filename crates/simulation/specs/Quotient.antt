@@ -1,0 +1,86 @@
+-- "Quotient", as functions of a table: the classes, their marks and moves, and the bytes written.
+use mathlib.Core.Bool.{Bool, _&&_, cond}
+use mathlib.Core.List.{List, [], _∷_, _++_, map}
+use Prim.Native.Nat.{ℕ, zero, suc, _+_, _*_, _-_, _/_, _%_}
+use lib.Dec.{eqb}
+use lib.ListN.{length, replicate}
+use Rattle.games.specs.Play.{count}
+use Rattle.games.specs.Settle.{ascending}
+use Rattle.automaton.specs.declared.Mode.{Mode}
+use Rattle.automaton.specs.Board.{Board, accepts, from, letter, to}
+use Rattle.automaton.specs.First.{first, some}
+use Rattle.simulation.specs.Rules.{bit}
+use Rattle.simulation.specs.Answers.{below}
+
+-- "Unused bytes are 255": the bytes xs, and 255 up to a length
+abbrev pub padded : (bytes : ℕ) → List ℕ → List ℕ
+padded bytes xs = xs ++ replicate (bytes - length xs) 255
+
+-- what f makes of 0, of 1 and on, below c, one after another
+abbrev pub inTurn : (ℕ → List ℕ) → (c : ℕ) → List ℕ
+inTurn f zero = []
+inTurn f (suc c) = inTurn f c ++ f c
+
+module _ (B : Board) (m : Mode) (t : List ℕ) where
+  -- "Two states are equal if each is related to the other (001, definition 12)."
+  abbrev pub equal : (q r : ℕ) → Bool
+  equal q r = below B m t q r && below B m t r q
+
+  -- ---- "Classes are numbered 0, 1 and on in the order of their least members."
+
+  -- the least state that equals q, which is q itself if none below it does
+  abbrev pub chief : ℕ → ℕ
+  chief q = first (equal q) 0 q
+
+  -- 1 for the least member of a class
+  abbrev pub leads : ℕ → ℕ
+  leads q = bit (eqb (chief q) q)
+
+  -- a class's number is that of the least members below its own
+  abbrev pub classOf : ℕ → ℕ
+  classOf q = count leads (chief q)
+
+  abbrev pub classCount : ℕ
+  classCount = count leads (B .n)
+
+  -- "the class of each state (n bytes)"
+  abbrev pub classBytes : List ℕ
+  classBytes = map classOf (ascending 0 (B .n))
+
+  -- ---- "accept marks (n bytes, one a class, 1 if some member accepts)"
+
+  abbrev pub markOf : (c : ℕ) → ℕ
+  markOf c = bit (some (λ q. eqb (classOf q) c && accepts B q) (B .n))
+
+  abbrev pub classMarks : List ℕ
+  classMarks = map markOf (ascending 0 classCount)
+
+  abbrev pub markBytes : List ℕ
+  markBytes = padded (B .n) classMarks
+
+  -- ---- "the moves with each state replaced by its class, sorted, each once (same length as the input's moves)"
+
+  -- A triple (c,a,d) has the number (c·k + a)·n + d, so that numbers ascend as the moves are to: by c, then a, then d.
+  abbrev pub tripleOf : (x : ℕ) → List ℕ
+  tripleOf x = x / B .n / B .k ∷ x / B .n % B .k ∷ x % B .n ∷ []
+
+  -- the number of move i with each state replaced by its class
+  abbrev pub imageOf : (i : ℕ) → ℕ
+  imageOf i = (classOf (from (B .moves) i) * B .k + letter (B .moves) i) * B .n + classOf (to (B .moves) i)
+
+  -- does some move become this triple?
+  abbrev pub reached : (x : ℕ) → Bool
+  reached x = some (λ i. eqb (imageOf i) x) (length (B .moves) / 3)
+
+  abbrev pub classMoves : List ℕ
+  classMoves = inTurn (λ x. cond (reached x) (tripleOf x) []) (B .n * B .k * B .n)
+
+  abbrev pub moveCount : ℕ
+  moveCount = length classMoves / 3
+
+  abbrev pub moveBytes : List ℕ
+  moveBytes = padded (length (B .moves)) classMoves
+
+  -- the quotient as a board: what is written, without the unused bytes
+  abbrev pub quotientOf : Board
+  quotientOf = record { n = classCount; k = B .k; marks = classMarks; moves = classMoves }
