@@ -9,7 +9,7 @@ ghost use Rattle.games.specs.Play.{count};
 ghost use Rattle.automaton.specs.Board.{boardOf};
 ghost use Rattle.automaton.specs.Limits.{mostLetters, mostStates};
 ghost use Rattle.simulation.specs.Position.{layers, pairs, positions};
-ghost use Rattle.simulation.specs.Rules.{bit, ceiling};
+ghost use Rattle.simulation.specs.Rules.{bit, ceiling, owed};
 ghost use Rattle.arena.specs.Answers.{ofCounted};
 ghost use Rattle.arena.specs.Arena.{entered, opened};
 ghost use Rattle.arena.specs.Job.{jobOf};
@@ -65,6 +65,23 @@ pub fn ceiling(a: Automaton, marks: &[u8], moves: &[u8], mode: usize) -> Counted
     match opened {
         Opened::Shut(refusal) => Counted::Refused(refusal),
         Opened::Open(g) => Counted::Number(g.top as usize),
+    }
+}
+
+// The bit b with which a pair begins, by whether Red's and Blue's states accept.
+pub fn owed(mode: Mode, red: bool, blue: bool) -> usize
+    ensures { λ r. ⌜ r ≡ owed mode red blue ⌝ }
+{
+    match mode {
+        Mode::Ordinary => 0,
+        Mode::Direct => 0,
+        Mode::Delayed => {
+            if red && !blue {
+                return 1;
+            }
+            0
+        }
+        Mode::Fair => 0,
     }
 }
 

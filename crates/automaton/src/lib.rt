@@ -186,8 +186,8 @@ pub fn check(a: Automaton, marks: &[u8], moves: &[u8]) -> Checked
     Checked::Sound
 }
 
-// A byte, wide enough to count with.
-fn wide(x: u8) -> usize
+// A byte, wide enough to count and to index with.
+pub fn wide(x: u8) -> usize
     ensures { λ r. ⌜ r ≡ x ⌝ }
 {
     x as usize

@@ -8,16 +8,10 @@ ghost use Rattle.automaton.specs.First.{first};
 ghost use Rattle.automaton.specs.Limits.{mostLetters, mostStates};
 ghost use Rattle.table.specs.Index.{Ascending, Indexed, key};
 use automaton::Automaton;
+use automaton::wide;
 
 // The keys at the limits, and one more: where the moves end.
 pub const KEYS: usize = Automaton::STATES * Automaton::LETTERS + 1;
-
-// A byte, wide enough to index with.
-pub fn wide(x: u8) -> usize
-    ensures { λ r. ⌜ r ≡ x ⌝ }
-{
-    x as usize
-}
 
 // The key of move i.
 fn key_of(letters: usize, moves: &[u8], i: usize) -> usize

@@ -9,9 +9,9 @@ ghost use Rattle.automaton.specs.Limits.{mostLetters, mostStates};
 ghost use Rattle.simulation.specs.Position.{layers};
 ghost use Rattle.simulation.specs.Rules.{eased, pended};
 ghost use Rattle.table.specs.Steps.{duplicatorSteps, spoilerSteps, spotOf};
-use super::index::wide;
 use arena::Arena;
 use automaton::Mode;
+use automaton::wide;
 
 // The moves from lo up to hi. One to the state r by the letter a leads to the position base + r · stride + a · step,
 // where the base is `marked` if r accepts and `plain` if not.

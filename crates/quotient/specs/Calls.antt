@@ -1,0 +1,46 @@
+-- "Quotient", for every input: what it answers, and all bytes of the four buffers lent to it.
+use mathlib.Core.Bool.{_&&_, not}
+use mathlib.Core.List.{List, [], _∷_}
+use Prim.Native.Nat.{ℕ}
+use lib.Dec.{eqb}
+use lib.ListN.{length}
+use Rattle.automaton.specs.declared.Mode.{Mode}
+use Rattle.automaton.specs.declared.Refusal.the-variants.{OutputLength}
+use Rattle.automaton.specs.Answer.{Answer, Fault, fails}
+use Rattle.automaton.specs.Board.{Board}
+use Rattle.automaton.specs.Effect.{Effect, does}
+use Rattle.simulation.specs.Answers.{settled}
+use Rattle.simulation.specs.Quotient.{classOf, classCount, classBytes, markBytes, moveCount, moveBytes}
+use Rattle.arena.specs.Job.{Job, modeOf}
+use Rattle.arena.specs.Refusals.{opening}
+
+-- what the lent buffers hold: the table, and the classes, marks and moves written
+pub record Buffers : Type 0 where
+  pub table : List ℕ
+  pub classes : List ℕ
+  pub marks : List ℕ
+  pub moves : List ℕ
+
+abbrev pub buffers : (table classes marks moves : List ℕ) → Buffers
+buffers t classes marks moves = record { table = t; classes = classes; marks = marks; moves = moves }
+
+-- 16: "an output length is wrong": n bytes, n bytes, and as many as the input's moves have
+abbrev pub outputFault : Board → Buffers → Fault
+outputFault B x =
+    fails (not (eqb (length (x .classes)) (B .n) && eqb (length (x .marks)) (B .n) && eqb (length (x .moves)) (length (B .moves)))) OutputLength
+
+-- an accepted quotient: "Answers: class count, move count, start class."
+abbrev pub counted : (classes moves start : ℕ) → Answer
+counted classes moves start = record { number = 0; place = 0; values = classes ∷ moves ∷ start ∷ [] }
+
+-- "settles the lent table itself", and writes the quotient by it
+abbrev pub merging : Board → Mode → (start : ℕ) → (table : List ℕ) → Effect Buffers
+merging B m start t = record {
+  answer = counted (classCount B m t) (moveCount B m t) (classOf B m t start);
+  left = buffers t (classBytes B m t) (markBytes B m t) (moveBytes B m t);
+}
+
+unfoldable pub quotienting : Job → (lent : Buffers) → Effect Buffers
+quotienting j x =
+    let m = modeOf (j .mode) in
+    opening j (length (x .table)) x (does (outputFault (j .board) x) x (merging (j .board) m (j .start) (settled (j .board) m .table)))

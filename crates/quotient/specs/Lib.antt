@@ -1,0 +1,4 @@
+pub mod Calls
+pub mod Answers
+pub mod Seats
+pub mod Writing
