@@ -2,3 +2,4 @@ pub mod Open
 pub mod Opening
 pub mod Accepted
 pub mod One
+pub mod Seats

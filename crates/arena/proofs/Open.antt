@@ -9,7 +9,6 @@ use lib.Dec.{eqb}
 use lib.ListN.{length}
 use borrow.Author.Tests.{eqb-true, eq-eqb, ne-eqb, not-false}
 use Rattle.games.specs.Game.{Game}
-use Rattle.automaton.specs.declared.Automaton.{Automaton}
 use Rattle.automaton.specs.declared.Mode.{Mode}
 use Rattle.automaton.specs.declared.Mode.the-variants.{Ordinary, Direct, Delayed, Fair}
 use Rattle.automaton.specs.declared.Named.{Named}
@@ -17,7 +16,6 @@ use Rattle.automaton.specs.declared.Named.the-variants.{Known, Unknown}
 use Rattle.automaton.specs.declared.Refusal.{Refusal}
 use Rattle.automaton.specs.declared.Refusal.the-variants.{ModeNumber, TableLength}
 use Rattle.automaton.specs.Answer.{Fault, none, fault}
-use Rattle.automaton.specs.Board.{boardOf}
 use Rattle.automaton.specs.Check.{automatonFault}
 use Rattle.automaton.specs.Limits.{nameOf}
 use Rattle.automaton.proofs.Fault.{Line, fails-line, _then_, end, table-line}
@@ -73,11 +71,12 @@ job-line j =
     (λ h. (h .0 .0, h .0 .1, h .1 .0), λ h. ((h .0, h .1), (h .2, tt)))
 
 -- T does not depend on the moves
-pub ceiling-moves : (a : Automaton) (marks ms ns : List ℕ) (m : Mode) → ceiling (boardOf a marks ms) m ≡ ceiling (boardOf a marks ns) m
-ceiling-moves a marks ms ns Ordinary = refl
-ceiling-moves a marks ms ns Direct = refl
-ceiling-moves a marks ms ns Delayed = refl
-ceiling-moves a marks ms ns Fair = refl
+pub ceiling-moves : (n k : ℕ) (marks ms ns : List ℕ) (m : Mode)
+    → ceiling (record { n = n; k = k; marks = marks; moves = ms }) m ≡ ceiling (record { n = n; k = k; marks = marks; moves = ns }) m
+ceiling-moves n k marks ms ns Ordinary = refl
+ceiling-moves n k marks ms ns Direct = refl
+ceiling-moves n k marks ms ns Delayed = refl
+ceiling-moves n k marks ms ns Fair = refl
 
 module _ (j : Job) where
   pub entered-refused : (r : Refusal) → automatonFault (j .board) (j .start) ≡ fault r → Shut r ≡ entered j

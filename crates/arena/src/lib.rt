@@ -9,7 +9,7 @@ ghost use Rattle.games.specs.Play.{count};
 ghost use Rattle.automaton.specs.Board.{boardOf};
 ghost use Rattle.automaton.specs.Limits.{mostLetters, mostStates};
 ghost use Rattle.simulation.specs.Position.{layers, pairs, positions};
-ghost use Rattle.simulation.specs.Rules.{bit, ceiling, owed};
+ghost use Rattle.simulation.specs.Rules.{bit, ceiling, eased, owed};
 ghost use Rattle.arena.specs.Answers.{ofCounted};
 ghost use Rattle.arena.specs.Arena.{entered, opened};
 ghost use Rattle.arena.specs.Job.{jobOf};
@@ -82,6 +82,23 @@ pub fn owed(mode: Mode, red: bool, blue: bool) -> usize
             0
         }
         Mode::Fair => 0,
+    }
+}
+
+// The bit b after Blue's move to a state that accepts or does not.
+pub fn eased(mode: Mode, accepting: bool, b: usize) -> usize
+    ensures { λ r. ⌜ r ≡ eased mode accepting b ⌝ }
+{
+    match mode {
+        Mode::Ordinary => b,
+        Mode::Direct => b,
+        Mode::Delayed => {
+            if accepting {
+                return 0;
+            }
+            b
+        }
+        Mode::Fair => b,
     }
 }
 

@@ -1,12 +1,12 @@
--- The laws of `first`: one step on, where it lies, and what is false before it and true at it.
+-- The laws of `first`: one step on, where it lies, and what is false before it and true at it. And the law of `some`.
 use mathlib.Core.Path.{_≡_, refl, sym, ap, _∙_}
 use mathlib.Core.Logic.{_↔_}
-use mathlib.Core.Bool.{Bool, true, false, cond, true≢false}
+use mathlib.Core.Bool.{Bool, true, false, _||_, cond, true≢false, false≢true}
 use Prim.Native.Nat.{ℕ, zero, suc, _+_, _-_, _≤_, _<_}
 use native.Mathlib.Decide.{ℕ-discrete}
 use native.Mathlib.Numerals.{add-one}
 use native.Mathlib.Omega.{arith}
-use Rattle.automaton.specs.First.{first}
+use Rattle.automaton.specs.First.{first, some}
 
 -- w is the first of the c numbers from v on that has p, and v + c if none has
 pub record Lowest (p : ℕ → Bool) (v c w : ℕ) : Type 0 where
@@ -64,3 +64,19 @@ module _ (p : ℕ → Bool) where
       go n (no d) =
           let b : first p v c < v + c = omega (arith, r .most) in
           absurd (true≢false (sym (r .here b) ∙ n (first p v c) (r .least) b))
+
+  -- `some` says that there is one
+  pub some-is : (c : ℕ) → (some p c ≡ true) ↔ ((i : ℕ) × (i < c) × (p i ≡ true))
+  some-is zero = (λ e. absurd (false≢true e), λ k. absurd (omega (arith, k .1)))
+  some-is (suc c) = go (p c) refl (some-is c)
+    where
+      go : (s : Bool) → p c ≡ s → (some p c ≡ true) ↔ ((i : ℕ) × (i < c) × (p i ≡ true)) → ((s || some p c) ≡ true) ↔ ((i : ℕ) × (i < suc c) × (p i ≡ true))
+      go true d r = (λ e. (c, omega arith, d), λ k. refl)
+      go false d r = (λ e. let (i, l, h) = r .0 e in (i, omega arith, h), λ k. r .1 (earlier k))
+        where
+          earlier : (i : ℕ) × (i < suc c) × (p i ≡ true) → (i : ℕ) × (i < c) × (p i ≡ true)
+          earlier (i, l, h) = (i, at (ℕ-discrete i c), h)
+            where
+              at : Dec (i ≡ c) → i < c
+              at (yes e) = absurd (true≢false (sym h ∙ ap p e ∙ d))
+              at (no n) = omega arith

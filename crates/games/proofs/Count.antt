@@ -1,8 +1,9 @@
 -- Laws of sums over the numbers below a bound.
-use mathlib.Core.Path.{_≡_, refl, sym}
+use mathlib.Core.Path.{_≡_, refl, sym, ap}
 use Prim.Native.Nat.{ℕ, zero, suc, _+_, _*_, _≤_, _<_}
 use native.Mathlib.Nat.{le-refl, add-suc, add-zero, suc-mul, zero-mul, add-mul}
 use native.Mathlib.Omega.{arith}
+use native.Mathlib.Decide.{ℕ-discrete, decLt}
 use Rattle.games.specs.Play.{count}
 
 pub count-mono : (p h : ℕ → ℕ) (a : ℕ) → ((i : ℕ) → i < a → p i ≤ h i) → count p a ≤ count h a
@@ -26,3 +27,29 @@ pub count-rows : (p h : ℕ → ℕ) (n a : ℕ) → ((i : ℕ) → i < a → co
 count-rows p h n zero le = rw (zero-mul n) (le-refl 0)
 count-rows p h n (suc a) le =
     rw (suc-mul a n, count-sum p (a * n) n) (omega (arith, le a (omega arith), count-rows p h n a (λ i l. le i (omega arith))))
+
+-- ---- where p is 0 or 1, the sum tells how many have 1
+
+-- fewer are below one that has 1 than below any higher number
+pub count-less : (p : ℕ → ℕ) (u a : ℕ) → u < a → p u ≡ 1 → count p u < count p a
+count-less p u zero l e = absurd (omega arith)
+count-less p u (suc a) l e = go (ℕ-discrete u a) (λ k. count-less p u a k e)
+  where
+    go : Dec (u ≡ a) → (u < a → count p u < count p a) → count p u < p a + count p a
+    go (yes d) rec = omega (arith, ap p d, ap (count p) d, e)
+    go (no d) rec = omega (arith, rec (omega arith))
+
+module _ (p : ℕ → ℕ) (most : (u : ℕ) → p u ≤ 1) where
+  -- no more than there are numbers
+  pub count-most : (a : ℕ) → count p a ≤ a
+  count-most zero = le-refl 0
+  count-most (suc a) = omega (arith, most a, count-most a)
+
+  -- every c less than all is how many are below some one that has 1
+  pub count-onto : (a c : ℕ) → c < count p a → (u : ℕ) × (u < a) × (p u ≡ 1) × (count p u ≡ c)
+  count-onto zero c l = absurd (omega arith)
+  count-onto (suc a) c l = go (decLt c (count p a)) (λ k. count-onto a c k)
+    where
+      go : Dec (c < count p a) → (c < count p a → (u : ℕ) × (u < a) × (p u ≡ 1) × (count p u ≡ c)) → (u : ℕ) × (u < suc a) × (p u ≡ 1) × (count p u ≡ c)
+      go (yes k) rec = let (u, i, e, d) = rec k in (u, omega arith, e, d)
+      go (no k) rec = (a, omega arith, omega (arith, most a), omega (arith, most a))

@@ -14,6 +14,7 @@ use Rattle.automaton.specs.Board.{Board, accepts}
 use Rattle.simulation.specs.Position.{layers, pairs, position}
 use Rattle.simulation.specs.Rules.{turn, kindOf, bit, ones, ceiling, game}
 use Rattle.simulation.proofs.Position.{positions-are}
+use Rattle.simulation.proofs.Listed.{bit-most}
 
 -- how many counting positions a row has for each of Blue's states that does not accept, and how many such rows' worth a layer has
 cell : Mode → ℕ → Bool → ℕ
@@ -48,11 +49,7 @@ module _ (B : Board) where
   -- Blue's states that do not accept are n - f
   rest-ones : (a : ℕ) → count (λ r. 1 - bit (accepts B r)) a + count (λ r. bit (accepts B r)) a ≡ a
   rest-ones zero = refl
-  rest-ones (suc a) = omega (arith, rest-ones a, one (accepts B a))
-    where
-      one : (t : Bool) → bit t ≤ 1
-      one true = omega arith
-      one false = omega arith
+  rest-ones (suc a) = omega (arith, rest-ones a, bit-most (accepts B a))
 
   pub ones-most : ones B ≤ B .n
   ones-most = omega (arith, rest-ones (B .n))

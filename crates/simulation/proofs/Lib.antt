@@ -4,6 +4,7 @@ pub mod Rising
 pub mod Ranges
 pub mod Position
 pub mod Inward
+pub mod Listed
 pub mod Counting
 pub mod Limits
 pub mod Turns

@@ -1,13 +1,10 @@
 -- The bytes of the relation: from any table at rest every 1 is a won pair, and from the settled one every won pair is a 1.
-use mathlib.Core.Path.{_≡_, refl, sym, ap, _∙_}
+use mathlib.Core.Path.{_≡_, sym, ap, _∙_}
 use mathlib.Core.Logic.{_↔_}
-use mathlib.Core.Bool.{Bool, true, false}
-use mathlib.Core.List.{List, map}
-use Prim.Native.Nat.{ℕ, zero, suc, _+_, _*_, _≤_, _<_}
-use native.Mathlib.Nat.{add-zero, zero-add}
-use native.Mathlib.Omega.{arith}
+use mathlib.Core.List.{List}
+use Prim.Native.Nat.{ℕ, _+_, _*_, _≤_, _<_}
+use native.Mathlib.Nat.{zero-add}
 use lib.Arith.{digits-lt, digits-div, digits-mod}
-use lib.Dec.{ltb}
 use lib.ListN.{length, getD, length-map}
 use borrow.Author.Tests.{lt-ltb, ltb-true}
 use Rattle.games.specs.Game.{at}
@@ -23,6 +20,7 @@ use Rattle.simulation.specs.Rules.{bit, ceiling, game, beginning}
 use Rattle.simulation.specs.Won.{WonPair}
 use Rattle.simulation.specs.Answers.{settled, below, byteAt, relation}
 use Rattle.simulation.proofs.Position.{number-lt}
+use Rattle.simulation.proofs.Listed.{map-at, length-ascending, bit-one}
 use Rattle.simulation.proofs.Inward.{inward}
 use Rattle.simulation.proofs.Counting.{counting-below}
 use Rattle.simulation.proofs.Walks.{beginning-good}
@@ -39,24 +37,6 @@ module _ (B : Board) (m : Mode) where
 
   pub settled-raises : settled B m .raised ≤ bound (game B m)
   settled-raises = settle-raises (game B m)
-
--- ---- bytes
-
-map-at : (f : ℕ → ℕ) (v c i : ℕ) → i < c → getD (map f (ascending v c)) i 0 ≡ f (v + i)
-map-at f v zero i l = absurd (omega arith)
-map-at f v (suc c) zero l = sym (ap f (add-zero v))
-map-at f v (suc c) (suc i) l = let e : suc v + i ≡ v + suc i = omega arith in map-at f (suc v) c i (omega arith) ∙ ap f e
-
-length-ascending : (v c : ℕ) → length (ascending v c) ≡ c
-length-ascending v zero = refl
-length-ascending v (suc c) = ap suc (length-ascending (suc v) c)
-
-bit-one : (a b : ℕ) → bit (ltb a b) ≡ 1 ↔ a < b
-bit-one a b = (λ e. go (ltb a b) refl e, λ h. ap bit (lt-ltb a b h))
-  where
-    go : (s : Bool) → ltb a b ≡ s → bit s ≡ 1 → a < b
-    go true d e = ltb-true a b d
-    go false d e = absurd (omega arith)
 
 pub relation-length : (B : Board) (m : Mode) (t : List ℕ) → length (relation B m t) ≡ B .n * B .n
 relation-length B m t = length-map (ascending 0 (B .n * B .n)) (byteAt B m t) ∙ length-ascending 0 (B .n * B .n)
@@ -83,9 +63,7 @@ module _ (B : Board) (F : Formed B) (m : Mode) (t : List ℕ) (q r : ℕ) (h : q
       ∙ rw (digits-div q l, digits-mod q l)
 
   one-below : getD (relation B m t) (q * B .n + r) 0 ≡ 1 ↔ at t (number B m (beginning B m q r)) < ceiling B m
-  one-below =
-      let o = bit-one (at t (number B m (beginning B m q r))) (ceiling B m) in
-      (λ e. o .0 (sym relation-at ∙ e), λ b. relation-at ∙ o .1 b)
+  one-below = (λ e. ltb-true _ _ (bit-one (below B m t q r) .0 (sym relation-at ∙ e)), λ b. relation-at ∙ ap bit (lt-ltb _ _ b))
 
   -- "From any table at rest every 1 is a won pair"
   pub relation-rest : AtRest (game B m) t → getD (relation B m t) (q * B .n + r) 0 ≡ 1 → WonPair B m q r

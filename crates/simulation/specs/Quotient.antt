@@ -1,4 +1,5 @@
 -- "Quotient", as functions of a table: the classes, their marks and moves, and the bytes written.
+use mathlib.Core.Path.{_≡_}
 use mathlib.Core.Bool.{Bool, _&&_, cond}
 use mathlib.Core.List.{List, [], _∷_, _++_, map}
 use Prim.Native.Nat.{ℕ, zero, suc, _+_, _*_, _-_, _/_, _%_}
@@ -9,6 +10,7 @@ use Rattle.games.specs.Settle.{ascending}
 use Rattle.automaton.specs.declared.Mode.{Mode}
 use Rattle.automaton.specs.Board.{Board, accepts, from, letter, to}
 use Rattle.automaton.specs.First.{first, some}
+use Rattle.simulation.specs.Moves.{Moves}
 use Rattle.simulation.specs.Rules.{bit}
 use Rattle.simulation.specs.Answers.{below}
 
@@ -84,3 +86,7 @@ module _ (B : Board) (m : Mode) (t : List ℕ) where
   -- the quotient as a board: what is written, without the unused bytes
   abbrev pub quotientOf : Board
   quotientOf = record { n = classCount; k = B .k; marks = classMarks; moves = classMoves }
+
+  -- (c,a,d) is a move with each state replaced by its class
+  abbrev pub Image : (c a d : ℕ) → Type 0
+  Image c a d = (q : ℕ) × (r : ℕ) × Moves B q a r × (classOf q ≡ c) × (classOf r ≡ d)

@@ -7,7 +7,7 @@ ghost use lib.ListN.{length, getD};
 ghost use Rattle.automaton.specs.Board.{to};
 ghost use Rattle.automaton.specs.Limits.{mostLetters, mostStates};
 ghost use Rattle.simulation.specs.Position.{layers};
-ghost use Rattle.simulation.specs.Rules.{eased, pended};
+ghost use Rattle.simulation.specs.Rules.{pended};
 ghost use Rattle.table.specs.Steps.{duplicatorSteps, spoilerSteps, spotOf};
 use arena::Arena;
 use automaton::Mode;
@@ -63,18 +63,6 @@ fn pended_bit(mode: Mode, b: usize) -> usize
     }
 }
 
-// The bit b after Blue's move to an accepting state.
-fn eased_bit(mode: Mode, b: usize) -> usize
-    ensures { λ r. ⌜ r ≡ eased mode true b ⌝ }
-{
-    match mode {
-        Mode::Ordinary => b,
-        Mode::Direct => b,
-        Mode::Delayed => 0,
-        Mode::Fair => b,
-    }
-}
-
 // The steps from Spoiler's (b, q, r): the moves from q.
 pub fn spoiler_steps(g: Arena, begins: &[usize], b: usize, q: usize, r: usize) -> Steps
     requires { ⌜ (g .states ≤ mostStates) × (g .letters ≤ mostLetters) × (g .pairs ≤ 8192) ⌝ }
@@ -115,7 +103,7 @@ pub fn duplicator_steps(g: Arena, begins: &[usize], b: usize, q: usize, r: usize
         lo: begins[key],
         hi: begins[key + 1],
         plain: base + b * square,
-        marked: base + eased_bit(mode, b) * square,
+        marked: base + arena::eased(mode, true, b) * square,
         stride: 1,
         step: 0,
     }

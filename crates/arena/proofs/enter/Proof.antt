@@ -76,7 +76,7 @@ returns-3 c =
     let m = told .named2 .given .0 .0 in
     let e = entered-known j m (faultless at) (sym (told .before .before .named .ensures) ∙ told .named2 .given .1) in
     ap (λ (p : ℕ). Open (record { states = j .board .n; letters = j .board .k; mode = m; pairs = p; top = c .top .result })) (c .before .pairs-of .ensures)
-    ∙ ap (λ (t : ℕ). Open (record { states = j .board .n; letters = j .board .k; mode = m; pairs = arenaOf (j .board) m .pairs; top = t })) (c .top .ensures ∙ ceiling-moves (begun (at .before .before) .args .a) (j .board .marks) [] (j .board .moves) m)
+    ∙ ap (λ (t : ℕ). Open (record { states = j .board .n; letters = j .board .k; mode = m; pairs = arenaOf (j .board) m .pairs; top = t })) (c .top .ensures ∙ ceiling-moves (j .board .n) (j .board .k) (j .board .marks) [] (j .board .moves) m)
     ∙ e
 
 pub enter-spec : {M : Type 1} → statement M

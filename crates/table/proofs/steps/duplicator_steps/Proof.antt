@@ -37,10 +37,10 @@ module _ (c : tie.Start) where
 abbrev begun : tie.After-shared-slice-known3 → tie.Start
 begun c = c .before .before .before
 
-bit : (c : tie.After-eased-bit) → c .eased-bit .result < 2
+bit : (c : tie.After-eased) → c .eased .result < 2
 bit c =
     let s = begun (c .before) in
-    omega (arith, c .eased-bit .ensures, layers-most (s .args .g .mode), eased-lt (s .args .g .mode) true (s .args .b) (s .pre .1 .0 .0))
+    omega (arith, c .eased .ensures, layers-most (s .args .g .mode), eased-lt (s .args .g .mode) true (s .args .b) (s .pre .1 .0 .0))
 
 mul-key : tie.Need-mul-key
 mul-key c = omega (arith, row (c .before))
@@ -77,19 +77,19 @@ add-t21 c =
     let at = begun c in
     omega (arith, square at (at .args .q) (omega arith), layer at (at .args .b) (two at))
 
-eased-bit-requires : tie.Need-eased-bit-requires
-eased-bit-requires c κs = search needs
+eased-requires : tie.Need-eased-requires
+eased-requires c κs = search needs
 
 mul-t23 : tie.Need-mul-t23
-mul-t23 c = omega (arith, layer (begun (c .before)) (c .eased-bit .result) (bit c))
+mul-t23 c = omega (arith, layer (begun (c .before)) (c .eased .result) (bit c))
 
 add-t24 : tie.Need-add-t24
 add-t24 c =
     let at = begun (c .before) in
-    omega (arith, square at (at .args .q) (omega arith), layer at (c .eased-bit .result) (bit c))
+    omega (arith, square at (at .args .q) (omega arith), layer at (c .eased .result) (bit c))
 
 returns : tie.Need-returns
-returns c = simp (c .eased-bit .ensures)
+returns c = simp (c .eased .ensures)
 
 pub duplicator-steps-spec : {M : Type 1} → statement M
 duplicator-steps-spec =
@@ -106,7 +106,7 @@ duplicator-steps-spec =
     shared-slice-read-t19
     mul-t20
     add-t21
-    eased-bit-requires
+    eased-requires
     mul-t23
     add-t24
     returns)

@@ -1,0 +1,11 @@
+pub mod Families
+pub mod Held
+pub mod Entries
+pub mod Reflexive
+pub mod Ranks
+pub mod Composed
+pub mod Preorder
+pub mod Classes
+pub mod Triples
+pub mod Images
+pub mod Quotient

@@ -1,0 +1,1 @@
+-- No definitions: the laws speak of the crates below.

@@ -1,0 +1,87 @@
+-- `relation::best::entry_after` meets its contract: it reads the entry of Spoiler's position that Blue's move leads to.
+use mathlib.Core.Path.{_≡_, ap}
+use Prim.Native.Nat.{ℕ, _+_, _*_, _≤_, _<_}
+use native.Mathlib.Omega.{arith}
+use borrow.Author.Needs.{needs}
+use lib.Arith.{digits-lt}
+use lib.ListN.{length}
+use Rattle.games.specs.Game.{at}
+use Rattle.automaton.specs.Board.{accepts}
+use Rattle.simulation.specs.Position.{layers}
+use Rattle.simulation.proofs.Inward.{eased-lt}
+use Rattle.arena.specs.Seats.{bare}
+use Rattle.arena.proofs.Seats.{square-most, layer-most, seat-lt}
+use Rattle.relation.proofs.best.entry_after.Statement.{statement}
+use Rattle.relation.proofs.best.entry_after.Tie as tie
+
+abbrev begun : tie.After-eased → tie.Start
+begun c = c .before .before .before .before
+
+-- the number of the pair of states
+abbrev pair : tie.After-eased → ℕ
+pair c = let a = begun c .args in a .q * a .g .states + a .s
+
+pair-lt : (c : tie.After-eased) → let n = begun c .args .g .states in pair c < n * n
+pair-lt c = digits-lt (begun c .pre .1 .1) (begun c .pre .1 .2)
+
+bit-lt : (c : tie.After-eased) → c .eased .result < layers (begun c .args .g .mode)
+bit-lt c =
+    let a = begun c .args in
+    omega (arith, c .eased .ensures, eased-lt (a .g .mode) (accepts (bare (a .g) (a .marks .now)) (a .s)) (a .b) (begun c .pre .1 .0))
+
+square : (c : tie.After-eased) → let n = begun c .args .g .states in n * n ≤ 4096
+square c = let a = begun c .args in square-most (a .g) (a .marks .now) (a .table .now) (begun c .pre .0)
+
+layer : (c : tie.After-eased) → let n = begun c .args .g .states in c .eased .result * (n * n) ≤ 4096
+layer c = let a = begun c .args in layer-most (a .g) (a .marks .now) (a .table .now) (begun c .pre .0) (c .eased .result) (pair c) (bit-lt c) (pair-lt c)
+
+inside : (c : tie.After-eased) → let n = begun c .args .g .states in c .eased .result * (n * n) + pair c < length (begun c .args .table .now)
+inside c = let a = begun c .args in seat-lt (a .g) (a .marks .now) (a .table .now) (begun c .pre .0) (c .eased .result) (pair c) (bit-lt c) (pair-lt c)
+
+shared-slice-read-eased : tie.Need-shared-slice-read-eased
+shared-slice-read-eased c = search needs
+
+eased-requires : tie.Need-eased-requires
+eased-requires c κs = search needs
+
+mul-result : tie.Need-mul-result
+mul-result c = omega (arith, square c)
+
+mul-result-2 : tie.Need-mul-result-2
+mul-result-2 c = omega (arith, layer c)
+
+mul-result-3 : tie.Need-mul-result-3
+mul-result-3 c = omega (arith, square c, pair-lt c)
+
+add-result : tie.Need-add-result
+add-result c = omega (arith, layer c, square c, pair-lt c)
+
+add-result-2 : tie.Need-add-result-2
+add-result-2 c = omega (arith, layer c, square c, pair-lt c)
+
+mul-result-4 : tie.Need-mul-result-4
+mul-result-4 c = omega (arith, layer c, square c, pair-lt c)
+
+shared-slice-read-result : tie.Need-shared-slice-read-result
+shared-slice-read-result c = omega (arith, inside (c .before))
+
+returns : tie.Need-returns
+returns c =
+    let s = begun (c .before) in
+    let n = s .args .g .states in
+    ap (λ (b : ℕ). at (s .args .table .now) (b * (n * n) + s .args .q * n + s .args .s)) (c .before .eased .ensures)
+
+pub entry-after-spec : {M : Type 1} → statement M
+entry-after-spec =
+    tie.close
+    (tie.spec
+    shared-slice-read-eased
+    eased-requires
+    mul-result
+    mul-result-2
+    mul-result-3
+    add-result
+    add-result-2
+    mul-result-4
+    shared-slice-read-result
+    returns)

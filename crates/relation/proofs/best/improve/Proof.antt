@@ -1,0 +1,31 @@
+-- `relation::best::improve` meets its contract: by whether there was a move, and whether the new entry is smaller.
+use mathlib.Core.Path.{_≡_}
+use borrow.Author.Needs.{needs}
+use borrow.Author.Tests.{lt-ltb, le-ltb}
+use Rattle.relation.proofs.best.improve.Statement.{statement}
+use Rattle.relation.proofs.best.improve.Tie as tie
+
+enum-told : tie.Need-enum-told
+enum-told c = search needs
+
+enum-known-best : tie.Need-enum-known-best
+enum-known-best c = search needs
+
+returns : tie.Need-returns
+returns c = simp (c .before .before .best .given .1, lt-ltb _ _ (c .if1 .taken))
+
+returns-2 : tie.Need-returns-2
+returns-2 c = simp (c .enum-told .given .1)
+
+returns-3 : tie.Need-returns-3
+returns-3 c = simp (c .before .before .best .given .1, le-ltb _ _ (c .if1 .left))
+
+pub improve-spec : {M : Type 1} → statement M
+improve-spec =
+    tie.close
+    (tie.spec
+    enum-told
+    enum-known-best
+    returns
+    returns-2
+    returns-3)

@@ -1,0 +1,125 @@
+-- `relation::pairs::byte_at` meets its contract: pair i begins with the bit that its two states owe.
+use mathlib.Core.Path.{_≡_, sym, ap, _∙_}
+use Prim.Native.Nat.{ℕ, zero, suc, _+_, _*_, _/_, _%_, _≤_, _<_}
+use native.Mathlib.Nat.{div-lt-iff-lt-mul, mod-lt, div-add-mod'}
+use native.Mathlib.Omega.{arith}
+use borrow.Author.Needs.{needs}
+use borrow.Author.Tests.{lt-ltb, le-ltb}
+use lib.ListN.{length}
+use Rattle.games.specs.Game.{at}
+use Rattle.automaton.specs.Board.{accepts}
+use Rattle.simulation.specs.Answers.{byteAt}
+use Rattle.simulation.specs.Position.{layers}
+use Rattle.simulation.specs.Rules.{bit, ceiling, owed}
+use Rattle.simulation.proofs.Turns.{owed-lt}
+use Rattle.arena.specs.Seats.{bare}
+use Rattle.arena.proofs.Seats.{square-most, layer-most, seat-lt}
+use Rattle.relation.proofs.pairs.byte_at.Statement.{statement}
+use Rattle.relation.proofs.pairs.byte_at.Tie as tie
+
+-- where there is a pair there is a state
+some-state : (n i : ℕ) → i < n * n → 0 < n
+some-state zero i h = absurd (omega arith)
+some-state (suc n) i h = omega arith
+
+states : (s : tie.Start) → 0 < s .args .g .states
+states s = some-state (s .args .g .states) (s .args .i) (s .pre .1)
+
+abbrev begun : tie.After-owed → tie.Start
+begun c = c .before .before .before .before .before
+
+bit-lt : (c : tie.After-owed) → c .owed .result < layers (begun c .args .g .mode)
+bit-lt c =
+    let a = begun c .args in
+    let B = bare (a .g) (a .marks .now) in
+    omega (arith, c .owed .ensures, owed-lt (a .g .mode) (accepts B (a .i / a .g .states)) (accepts B (a .i % a .g .states)))
+
+square : (c : tie.After-owed) → let n = begun c .args .g .states in n * n ≤ 4096
+square c = let a = begun c .args in square-most (a .g) (a .marks .now) (a .table .now) (begun c .pre .0)
+
+layer : (c : tie.After-owed) → let n = begun c .args .g .states in c .owed .result * (n * n) ≤ 4096
+layer c = let a = begun c .args in layer-most (a .g) (a .marks .now) (a .table .now) (begun c .pre .0) (c .owed .result) (a .i) (bit-lt c) (begun c .pre .1)
+
+inside : (c : tie.After-owed) → let n = begun c .args .g .states in c .owed .result * (n * n) + begun c .args .i < length (begun c .args .table .now)
+inside c = let a = begun c .args in seat-lt (a .g) (a .marks .now) (a .table .now) (begun c .pre .0) (c .owed .result) (a .i) (bit-lt c) (begun c .pre .1)
+
+-- the entry at the beginning of pair i, and T
+abbrev beginning : tie.After-owed → ℕ
+beginning c =
+    let a = begun c .args in
+    let n = a .g .states in
+    let B = bare (a .g) (a .marks .now) in
+    at (a .table .now) (owed (a .g .mode) (accepts B (a .i / n)) (accepts B (a .i % n)) * (n * n) + a .i / n * n + a .i % n)
+
+abbrev top : tie.After-owed → ℕ
+top c = ceiling (bare (begun c .args .g) (begun c .args .marks .now)) (begun c .args .g .mode)
+
+-- the entry that is read is that one
+read : (c : tie.After-owed) → let a = begun c .args in at (a .table .now) (c .owed .result * (a .g .states * a .g .states) + a .i) ≡ beginning c
+read c =
+    let a = begun c .args in
+    let n = a .g .states in
+    ap (at (a .table .now)) (omega (arith, ap (λ (b : ℕ). b * (n * n)) (c .owed .ensures), div-add-mod' (a .i) n))
+
+div-owed : tie.Need-div-owed
+div-owed c = omega (arith, states (c .before .before))
+
+shared-slice-read-owed : tie.Need-shared-slice-read-owed
+shared-slice-read-owed c =
+    let s = c .before .before .before in
+    omega (arith, div-lt-iff-lt-mul (states s) .1 (s .pre .1), s .pre .0 .marked)
+
+rem-owed : tie.Need-rem-owed
+rem-owed c = omega (arith, states (c .before .before .before))
+
+shared-slice-read-owed-2 : tie.Need-shared-slice-read-owed-2
+shared-slice-read-owed-2 c =
+    let s = c .before .before .before .before in
+    omega (arith, mod-lt (s .args .i) (states s), s .pre .0 .marked)
+
+owed-requires : tie.Need-owed-requires
+owed-requires c κs = search needs
+
+mul-if1 : tie.Need-mul-if1
+mul-if1 c = omega (arith, square c)
+
+mul-if1-2 : tie.Need-mul-if1-2
+mul-if1-2 c = omega (arith, layer c)
+
+add-if1 : tie.Need-add-if1
+add-if1 c = omega (arith, layer c, square c, begun c .pre .1)
+
+mul-if1-3 : tie.Need-mul-if1-3
+mul-if1-3 c = omega (arith, layer c, square c, begun c .pre .1)
+
+shared-slice-read-if1 : tie.Need-shared-slice-read-if1
+shared-slice-read-if1 c = omega (arith, inside (c .before))
+
+returns : tie.Need-returns
+returns c =
+    let o = c .before .before in
+    let lower : beginning o < top o = omega (arith, c .if1 .taken, read o, begun o .pre .0 .topped) in
+    sym (ap bit (lt-ltb (beginning o) (top o) lower))
+
+returns-2 : tie.Need-returns-2
+returns-2 c =
+    let o = c .before .before in
+    let no-lower : top o ≤ beginning o = omega (arith, c .if1 .left, read o, begun o .pre .0 .topped) in
+    sym (ap bit (le-ltb (beginning o) (top o) no-lower))
+
+pub byte-at-spec : {M : Type 1} → statement M
+byte-at-spec =
+    tie.close
+    (tie.spec
+    div-owed
+    shared-slice-read-owed
+    rem-owed
+    shared-slice-read-owed-2
+    owed-requires
+    mul-if1
+    mul-if1-2
+    add-if1
+    mul-if1-3
+    shared-slice-read-if1
+    returns
+    returns-2)

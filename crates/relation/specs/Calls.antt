@@ -1,0 +1,41 @@
+-- The calls that read a table at rest, for every input: what each answers, and the bytes that `relation` leaves.
+use mathlib.Core.Bool.{not}
+use mathlib.Core.List.{List, [], _∷_}
+use Prim.Native.Nat.{ℕ, _*_}
+use lib.Dec.{eqb}
+use lib.ListN.{length}
+use Rattle.games.specs.Game.{Game}
+use Rattle.automaton.specs.declared.Refusal.the-variants.{NotAtRest, OutputLength}
+use Rattle.automaton.specs.Answer.{Answer, valued, Fault, fails, failsAt, firstFault, unless}
+use Rattle.automaton.specs.Board.{Board}
+use Rattle.automaton.specs.Effect.{Effect, does}
+use Rattle.simulation.specs.Answers.{relation, related, replyAt}
+use Rattle.arena.specs.Job.{Job, modeOf, gameOf}
+use Rattle.arena.specs.Refusals.{openFault, opening}
+use Rattle.table.specs.Calls.{entryFault, positionFault, restless}
+
+-- ---- the refusals 12 and 16
+
+-- 12: "not at rest" at "lowest position"
+abbrev pub restFault : Game → (table : List ℕ) → Fault
+restFault g t = failsAt NotAtRest (restless g t) (g .P)
+
+-- 16: "an output length is wrong"
+abbrev pub outputFault : Board → (bytes : ℕ) → Fault
+outputFault B bytes = fails (not (eqb bytes (B .n * B .n))) OutputLength
+
+-- ---- the two calls
+
+-- "Relation: from a table at rest, n² bytes, 1 where the pair's beginning is below T; value is the count of ones."
+unfoldable pub relating : Job → (table bytes : List ℕ) → Effect (List ℕ)
+relating j t out =
+    let m = modeOf (j .mode) in
+    opening j (length t) out
+    (does (firstFault (entryFault (gameOf j) t ∷ restFault (gameOf j) t ∷ outputFault (j .board) (length out) ∷ [])) out
+    (record { answer = valued (related (j .board) m t); left = relation (j .board) m t }))
+
+-- "Reply: value is the state for Blue."
+unfoldable pub replying : Job → (table : List ℕ) → (v : ℕ) → Answer
+replying j t v =
+    unless (openFault j (length t))
+    (unless (firstFault (entryFault (gameOf j) t ∷ positionFault (gameOf j) v ∷ restFault (gameOf j) t ∷ [])) (replyAt (j .board) (modeOf (j .mode)) t v))

@@ -1,0 +1,3 @@
+pub mod Calls
+pub mod Answers
+pub mod Best
