@@ -4,10 +4,11 @@ use mathlib.Core.Logic.{_≢_, _⊎_, inl, inr}
 use mathlib.Core.Bool.{Bool, true, false}
 use mathlib.Core.List.{List, [], _∷_, List·Memᴰ, List·Memᴰ·head, List·Memᴰ·tail, List·Memᴰ·not-nil, List·Memᴰ·cases-cons}
 use Prim.Native.Nat.{ℕ, _+_, _≤_, _<_}
-use native.Mathlib.Nat.{le-refl}
+use native.Mathlib.Nat.{le-refl, le-trans}
 use native.Mathlib.Omega.{arith}
 use native.Mathlib.Decide.{decLt}
 use lib.Dec.{leb, leb→le, nleb→lt}
+use borrow.Author.Tests.{le-leb, lt-leb}
 use Rattle.games.specs.Game.{Kind, low, high, counting, resetting, idle, lost, Game, Inward, ask, asked, at, lowest, highest, full}
 use Rattle.games.specs.Lift.{AtRest}
 use Rattle.games.specs.Play.{isCounting, isResetting, Step, Walk, stop, more, counts, resets, Wins, Won}
@@ -48,6 +49,22 @@ pick-in f (v ∷ vs) n = firstLeast-in f v vs
 pub pick-le : (f : ℕ → ℕ) (vs : List ℕ) {u : ℕ} → List·Memᴰ u vs → f (pick f vs) ≤ f u
 pick-le f [] m = absurd (List·Memᴰ·not-nil m)
 pick-le f (v ∷ vs) m = firstLeast-le f v vs m
+
+-- The first of the least as a scan finds it: a position with a smaller entry takes the place of the best so far,
+pub firstLeast-later : (f : ℕ → ℕ) (v w : ℕ) (ws : List ℕ) → f w < f v → firstLeast f v (w ∷ ws) ≡ firstLeast f w ws
+unfolding firstLeast
+firstLeast-later f v w ws l = simp (lt-leb (f v) (f (firstLeast f w ws)) (omega (arith, pick-le f (w ∷ ws) (List·Memᴰ·head refl))))
+
+-- and no other does.
+pub firstLeast-stays : (f : ℕ → ℕ) (v w : ℕ) (ws : List ℕ) → f v ≤ f w → firstLeast f v (w ∷ ws) ≡ firstLeast f v ws
+unfolding firstLeast
+firstLeast-stays f v w [] l = simp (le-leb (f v) (f w) l)
+firstLeast-stays f v w (x ∷ xs) l = go (leb (f w) (f (firstLeast f x xs))) refl
+  where
+    go : (d : Bool) → leb (f w) (f (firstLeast f x xs)) ≡ d
+        → better (leb (f v) (f (better d w (firstLeast f x xs)))) v (better d w (firstLeast f x xs)) ≡ better (leb (f v) (f (firstLeast f x xs))) v (firstLeast f x xs)
+    go true e = simp (le-leb (f v) (f w) l, le-leb (f v) (f (firstLeast f x xs)) (le-trans l (leb→le (f w) (f (firstLeast f x xs)) (rw e tt))))
+    go false e = refl
 
 -- there are least replies to every table
 pub picks : (g : Game) (t : List ℕ) → LeastReplies g t (λ v. pick (at t) (g .next v))

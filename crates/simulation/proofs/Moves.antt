@@ -1,12 +1,13 @@
 -- The lists of targets and arrows of a state tell exactly its moves, and stay inside the board.
-use mathlib.Core.Path.{_≡_, refl, sym, ap}
+use mathlib.Core.Path.{_≡_, refl, sym, ap, _∙_}
 use mathlib.Core.Logic.{_⊎_, inl, inr, _↔_}
 use mathlib.Core.Bool.{Bool, true, false, _&&_}
-use mathlib.Core.List.{List, [], _∷_, List·Memᴰ, List·Memᴰ·head, List·Memᴰ·not-nil, List·Memᴰ·append-cases, List·Memᴰ·eq-of-singleton, Memᴰ·append-left, Memᴰ·append-right}
+use mathlib.Core.List.{List, [], _∷_, _++_, List·Memᴰ, List·Memᴰ·head, List·Memᴰ·not-nil, List·Memᴰ·append-cases, List·Memᴰ·eq-of-singleton, Memᴰ·append-left, Memᴰ·append-right}
 use Prim.Native.Nat.{ℕ, zero, suc, _+_, _*_, _<_}
 use native.Mathlib.Omega.{arith}
 use lib.Dec.{eqb}
-use lib.ListN.{length}
+use lib.ListN.{length, drop}
+use lib.Seq.{drop-cons}
 use borrow.Author.Tests.{eqb-true, eq-eqb}
 use Rattle.automaton.specs.Board.{Board, from, letter, to, Formed}
 use Rattle.simulation.specs.Moves.{only, gather, targets, Arrow, arrows, Moves}
@@ -50,6 +51,20 @@ module _ {X : Type 0} (f : ℕ → ℕ → ℕ → List X) where
   gather-in (x ∷ y ∷ []) i h m = absurd (omega arith)
   gather-in (x ∷ y ∷ z ∷ ms) zero h m = Memᴰ·append-left (gather f ms) m
   gather-in (x ∷ y ∷ z ∷ ms) (suc i) h m = Memᴰ·append-right (f x y z) (gather-in ms i (omega arith) (rw (made-suc x y z ms i) at m))
+
+-- what is gathered from move i on: what f makes of it, and what is gathered from the next one on
+pub gather-from : {X : Type 0} (f : ℕ → ℕ → ℕ → List X) (ms : List ℕ) (i : ℕ) → i * 3 + 2 < length ms
+    → gather f (drop (i * 3) ms) ≡ made f ms i ++ gather f (drop ((i + 1) * 3) ms)
+gather-from f ms i h =
+    let one : suc (i * 3) ≡ i * 3 + 1 = omega arith in
+    let two : suc (i * 3 + 1) ≡ i * 3 + 2 = omega arith in
+    let next : suc (i * 3 + 2) ≡ (i + 1) * 3 = omega arith in
+    let from-on : (j l : ℕ) → j ≡ l → drop j ms ≡ drop l ms = λ j l e. ap (λ (n : ℕ). drop n ms) e in
+    ap (gather f)
+    (drop-cons ms (i * 3) 0 (omega arith)
+    ∙ ap (λ (t : List ℕ). from ms i ∷ t) (from-on (suc (i * 3)) (i * 3 + 1) one ∙ drop-cons ms (i * 3 + 1) 0 (omega arith))
+    ∙ ap (λ (t : List ℕ). from ms i ∷ letter ms i ∷ t) (from-on (suc (i * 3 + 1)) (i * 3 + 2) two ∙ drop-cons ms (i * 3 + 2) 0 h)
+    ∙ ap (λ (t : List ℕ). from ms i ∷ letter ms i ∷ to ms i ∷ t) (from-on (suc (i * 3 + 2)) ((i + 1) * 3) next))
 
 -- ---- exactly the moves
 

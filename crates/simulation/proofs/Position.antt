@@ -1,6 +1,6 @@
 -- A position and its number determine each other; the positions of a mode are the numbers below P.
 use mathlib.Core.Path.{_≡_, sym, _∙_}
-use Prim.Native.Nat.{ℕ, _+_, _*_, _-_, _/_, _%_, _<_}
+use Prim.Native.Nat.{ℕ, _+_, _*_, _-_, _/_, _%_, _≤_, _<_}
 use native.Mathlib.Nat.{add-mul, mul-add, mul-assoc, mul-one, div-add-mod', mod-lt, div-lt-iff-lt-mul}
 use native.Mathlib.Omega.{arith}
 use native.Mathlib.Decide.{decLt}
@@ -8,7 +8,7 @@ use lib.Arith.{digits-lt, digits-div, digits-mod}
 use borrow.Author.Tests.{lt-ltb, le-ltb}
 use Rattle.automaton.specs.declared.Mode.{Mode}
 use Rattle.automaton.specs.Board.{Board, Formed}
-use Rattle.simulation.specs.Position.{Position, spoiler, duplicator, layers, pairs, positions, pair, number, position, Fits}
+use Rattle.simulation.specs.Position.{Position, spoiler, duplicator, layers, pairs, positions, pair, number, spoilerAt, duplicatorAt, position, Fits}
 
 -- ---- b·n² + q·n + q' and back
 
@@ -45,6 +45,13 @@ module _ (B : Board) (m : Mode) where
   number-lt (spoiler b q r) h = rw (positions-are B m) (omega (arith, pair-lt B (layers m) (h .0) (h .1) (h .2)))
   number-lt (duplicator b q r a) h =
       rw (positions-are B m) (omega (arith, digits-lt (pair-lt B (layers m) (h .0) (h .1) (h .2)) (h .3)))
+
+  -- whose turn it is at a number
+  pub spoilers-turn : (v : ℕ) → v < pairs B m → position B m v ≡ spoilerAt B v
+  spoilers-turn v h = rw (lt-ltb v (pairs B m) h)
+
+  pub duplicators-turn : (v : ℕ) → pairs B m ≤ v → position B m v ≡ duplicatorAt B (v - pairs B m)
+  duplicators-turn v h = rw (le-ltb v (pairs B m) h)
 
   pub position-number : (p : Position) → Fits B m p → position B m (number B m p) ≡ p
   position-number (spoiler b q r) h =

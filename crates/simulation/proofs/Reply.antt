@@ -17,8 +17,8 @@ use Rattle.simulation.specs.Moves.{targets}
 use Rattle.simulation.specs.Position.{Position, spoiler, duplicator, number, position, Fits}
 use Rattle.simulation.specs.Rules.{reply, steps, kindOf, ceiling, game}
 use Rattle.simulation.specs.Won.{Chosen, here, WonBy}
-use Rattle.automaton.specs.Answer.{Answer, valued, none, firstFault, unless}
-use Rattle.simulation.specs.Answers.{entryAfter, replies, blueMoves, blueReply, turnFault, lostFault, moveFault, replyAt}
+use Rattle.automaton.specs.Answer.{valued, none}
+use Rattle.simulation.specs.Answers.{entryAfter, replies, moveFault, replyOn, replyAt}
 use Rattle.simulation.specs.Meaning.{LowestLeast}
 use Rattle.simulation.proofs.Moves.{targets-moves}
 use Rattle.simulation.proofs.Rising.{Rising, rising-ge, targets-rising}
@@ -89,12 +89,9 @@ module _ (B : Board) (F : Formed B) (m : Mode) (t : List ℕ) where
     pub reply-answers : (b q r a : ℕ) → Fits B m (duplicator b q r a) → at t (number B m (duplicator b q r a)) < ceiling B m
         → replyAt B m t (number B m (duplicator b q r a)) ≡ valued (replies B m t b q r a)
     reply-answers b q r a h l =
-        ap (answered (number B m (duplicator b q r a))) (position-number B m (duplicator b q r a) h)
+        ap (replyOn B m t (number B m (duplicator b q r a))) (position-number B m (duplicator b q r a) h)
         ∙ simp (lt-leb _ _ l, moved (targets B r a) (has-move b q r a h l))
       where
-        answered : (v : ℕ) → Position → Answer
-        answered v p = unless (firstFault (turnFault p ∷ lostFault (ceiling B m) (at t v) ∷ moveFault (blueMoves B p) ∷ [])) (valued (blueReply B m t p))
-
         moved : (l : List ℕ) → l ≢ [] → moveFault l ≡ none
         moved [] n = absurd (n refl)
         moved (x ∷ xs) n = refl

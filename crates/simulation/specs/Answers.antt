@@ -70,7 +70,8 @@ moveFault [] = fault NoMove
 moveFault (x ∷ xs) = none
 
 -- the answer at position v of a table at rest: refusals 13 to 15, else "the state for Blue"
+abbrev pub replyOn : Board → Mode → (table : List ℕ) → (v : ℕ) → Position → Answer
+replyOn B m t v p = unless (firstFault (turnFault p ∷ lostFault (ceiling B m) (at t v) ∷ moveFault (blueMoves B p) ∷ [])) (valued (blueReply B m t p))
+
 abbrev pub replyAt : Board → Mode → (table : List ℕ) → (v : ℕ) → Answer
-replyAt B m t v =
-    let p = position B m v in
-    unless (firstFault (turnFault p ∷ lostFault (ceiling B m) (at t v) ∷ moveFault (blueMoves B p) ∷ [])) (valued (blueReply B m t p))
+replyAt B m t v = replyOn B m t v (position B m v)

@@ -3,10 +3,9 @@ use mathlib.Core.Path.{_≡_, sym, ap, _∙_}
 use Prim.Native.Nat.{ℕ, _-_, _≤_, _<_}
 use native.Mathlib.Omega.{arith}
 use borrow.Author.Needs.{needs}
-use borrow.Author.Tests.{lt-ltb, le-ltb}
 use Rattle.automaton.specs.Board.{Board}
-use Rattle.simulation.specs.Position.{Position, pairs, spoilerAt, duplicatorAt, position, Fits}
-use Rattle.simulation.proofs.Position.{position-fits}
+use Rattle.simulation.specs.Position.{Position, spoilerAt, duplicatorAt, position, Fits}
+use Rattle.simulation.proofs.Position.{spoilers-turn, duplicators-turn, position-fits}
 use Rattle.arena.specs.Arena.{boardIn}
 use Rattle.table.specs.Asked.{askedOf}
 use Rattle.table.proofs.asked.asked.Statement.{statement}
@@ -26,12 +25,12 @@ module _ (c : tie.Start) where
   fits = let R = c .pre .0 in position-fits board (c .args .g .mode) (R .formed) (c .args .v) (omega (arith, R .entries))
 
   spoilers : c .args .v < c .args .g .pairs → here ≡ spoilerAt board (c .args .v)
-  spoilers h = rw (lt-ltb (c .args .v) (pairs board (c .args .g .mode)) (omega (arith, c .pre .0 .paired)))
+  spoilers h = spoilers-turn board (c .args .g .mode) (c .args .v) (omega (arith, c .pre .0 .paired))
 
   duplicators : c .args .g .pairs ≤ c .args .v → here ≡ duplicatorAt board (c .args .v - c .args .g .pairs)
   duplicators h =
       let e = c .pre .0 .paired in
-      rw (le-ltb (c .args .v) (pairs board (c .args .g .mode)) (omega (arith, e)), e)
+      rw e (duplicators-turn board (c .args .g .mode) (c .args .v) (omega (arith, e)))
 
 abbrev begun : tie.After-shared-slice-known4 → tie.Start
 begun c = c .before .before .before .before
