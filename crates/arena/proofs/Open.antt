@@ -128,7 +128,7 @@ module _ (j : Job) (t : List ℕ) where
   shut-fault r o = by-shut (openFault j (length t)) _ r o
 
   module _ (g : Arena) (o : opened j (length t) ≡ Open g) where
-    open-is : (openFault j (length t) ≡ none) × (arenaOf (j .board) (modeOf (j .mode)) ≡ g)
+    pub open-is : (openFault j (length t) ≡ none) × (arenaOf (j .board) (modeOf (j .mode)) ≡ g)
     unfolding opened
     open-is = by-open (openFault j (length t)) _ g o
 

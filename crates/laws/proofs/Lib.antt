@@ -8,4 +8,5 @@ pub mod Preorder
 pub mod Classes
 pub mod Triples
 pub mod Images
+pub mod Fewer
 pub mod Quotient

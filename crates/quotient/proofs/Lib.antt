@@ -1,0 +1,5 @@
+pub mod Lists
+pub mod Turns
+pub mod Bytes
+pub mod Bare
+pub mod Outputs

@@ -1,4 +1,3 @@
 pub mod Calls
 pub mod Answers
-pub mod Seats
 pub mod Writing

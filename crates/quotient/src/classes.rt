@@ -4,7 +4,7 @@ ghost use Prim.Native.Nat.{_<_};
 ghost use lib.ListN.{length};
 ghost use Rattle.simulation.specs.Answers.{below};
 ghost use Rattle.simulation.specs.Quotient.{chief, classBytes, classCount, equal};
-ghost use Rattle.quotient.specs.Seats.{bare, Seated};
+ghost use Rattle.arena.specs.Seats.{bare, Seated};
 use arena::Arena;
 use automaton::Automaton;
 

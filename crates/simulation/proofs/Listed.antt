@@ -7,7 +7,7 @@ use Prim.Native.Nat.{ℕ, zero, suc, _+_, _≤_, _<_}
 use native.Mathlib.Nat.{add-zero, zero-add, not-suc-le-zero, le-of-suc-le-suc}
 use native.Mathlib.Numerals.{add-one}
 use native.Mathlib.Omega.{arith}
-use lib.ListN.{length, getD, set, drop}
+use lib.ListN.{length, getD, set, drop, length-map}
 use Rattle.games.specs.Settle.{ascending}
 use Rattle.simulation.specs.Rules.{bit}
 
@@ -21,6 +21,10 @@ map-at f v (suc c) (suc i) l = let e : suc v + i ≡ v + suc i = omega arith in 
 pub length-ascending : (v c : ℕ) → length (ascending v c) ≡ c
 length-ascending v zero = refl
 length-ascending v (suc c) = ap suc (length-ascending (suc v) c)
+
+-- so has a list of what f makes of them
+pub listed-length : (f : ℕ → ℕ) (v c : ℕ) → length (map f (ascending v c)) ≡ c
+listed-length f v c = length-map (ascending v c) f ∙ length-ascending v c
 
 -- the front of d written over with f of v, of v + 1 and on: a store of one more
 written-suc : (f : ℕ → ℕ) (v i : ℕ) (d : List ℕ) → i < length d

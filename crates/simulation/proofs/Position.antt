@@ -16,7 +16,7 @@ module _ (B : Board) where
   horner : (b q r : ℕ) → pair B b q r ≡ (b * B .n + q) * B .n + r
   horner b q r = sym (rw (add-mul (b * B .n) q (B .n), mul-assoc b (B .n) (B .n)))
 
-  pair-lt : (L : ℕ) {b q r : ℕ} → b < L → q < B .n → r < B .n → pair B b q r < L * (B .n * B .n)
+  pub pair-lt : (L : ℕ) {b q r : ℕ} → b < L → q < B .n → r < B .n → pair B b q r < L * (B .n * B .n)
   pair-lt L {b} {q} {r} x y z = rw (horner b q r, ← mul-assoc L (B .n) (B .n)) (digits-lt (digits-lt x y) z)
 
   pair-b : (b q r : ℕ) → q < B .n → r < B .n → pair B b q r / B .n / B .n ≡ b

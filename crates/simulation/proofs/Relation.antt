@@ -20,7 +20,7 @@ use Rattle.simulation.specs.Rules.{bit, ceiling, game, beginning}
 use Rattle.simulation.specs.Won.{WonPair}
 use Rattle.simulation.specs.Answers.{settled, below, byteAt, relation}
 use Rattle.simulation.proofs.Position.{number-lt}
-use Rattle.simulation.proofs.Listed.{map-at, length-ascending, bit-one}
+use Rattle.simulation.proofs.Listed.{map-at, listed-length, bit-one}
 use Rattle.simulation.proofs.Inward.{inward}
 use Rattle.simulation.proofs.Counting.{counting-below}
 use Rattle.simulation.proofs.Walks.{beginning-good}
@@ -39,7 +39,7 @@ module _ (B : Board) (m : Mode) where
   settled-raises = settle-raises (game B m)
 
 pub relation-length : (B : Board) (m : Mode) (t : List ℕ) → length (relation B m t) ≡ B .n * B .n
-relation-length B m t = length-map (ascending 0 (B .n * B .n)) (byteAt B m t) ∙ length-ascending 0 (B .n * B .n)
+relation-length B m t = listed-length (byteAt B m t) 0 (B .n * B .n)
 
 -- ---- pairs
 

@@ -84,17 +84,17 @@ loop-again c =
     let left = goals (a .r) (a .a) (drop ((i + 1) * 3) (a .moves .now)) in (
       omega (arith, here),
       ⊎-elim
-      (λ w.
+          (λ w.
           let goal = w .2 .ensures in
           let led : w .3 .result ≡ f (to (a .moves .now) i) = w .3 .ensures ∙ ap f goal in
           ap (λ (b : Best). bestOf f b left) (w .5 ∙ w .4 .ensures ∙ (λ j. improved (l .loop .best) (goal j) (led j)))
           ∙ scan-taken f (l .loop .best) (a .r) (a .a) (a .moves .now) i here (sym (leaves .leaves .ensures) ∙ w .0 .taken)
           ∙ l .loop .inv .1)
-      (λ w.
+          (λ w.
           ap (λ (b : Best). bestOf f b left) (w .1)
           ∙ scan-passed f (l .loop .best) (a .r) (a .a) (a .moves .now) i here (sym (leaves .leaves .ensures) ∙ w .0 .left)
           ∙ l .loop .inv .1)
-      (c .if1 .came),
+          (c .if1 .came),
     )
 
 returns : tie.Need-returns Inv-loop μ-loop

@@ -9,11 +9,11 @@ use lib.ListN.{length}
 use Rattle.games.specs.Game.{at}
 use Rattle.automaton.specs.Board.{accepts}
 use Rattle.simulation.specs.Answers.{byteAt}
-use Rattle.simulation.specs.Position.{layers}
+use Rattle.simulation.specs.Position.{layers, pair}
 use Rattle.simulation.specs.Rules.{bit, ceiling, owed}
 use Rattle.simulation.proofs.Turns.{owed-lt}
 use Rattle.arena.specs.Seats.{bare}
-use Rattle.arena.proofs.Seats.{square-most, layer-most, seat-lt}
+use Rattle.arena.proofs.Seats.{square-most, seat-small, seat-lt}
 use Rattle.relation.proofs.pairs.byte_at.Statement.{statement}
 use Rattle.relation.proofs.pairs.byte_at.Tie as tie
 
@@ -34,14 +34,34 @@ bit-lt c =
     let B = bare (a .g) (a .marks .now) in
     omega (arith, c .owed .ensures, owed-lt (a .g .mode) (accepts B (a .i / a .g .states)) (accepts B (a .i % a .g .states)))
 
-square : (c : tie.After-owed) → let n = begun c .args .g .states in n * n ≤ 4096
-square c = let a = begun c .args in square-most (a .g) (a .marks .now) (a .table .now) (begun c .pre .0)
+-- the two states of pair i
+red-lt : (s : tie.Start) → s .args .i / s .args .g .states < s .args .g .states
+red-lt s = div-lt-iff-lt-mul (states s) .1 (s .pre .1)
 
-layer : (c : tie.After-owed) → let n = begun c .args .g .states in c .owed .result * (n * n) ≤ 4096
-layer c = let a = begun c .args in layer-most (a .g) (a .marks .now) (a .table .now) (begun c .pre .0) (c .owed .result) (a .i) (bit-lt c) (begun c .pre .1)
+blue-lt : (s : tie.Start) → s .args .i % s .args .g .states < s .args .g .states
+blue-lt s = mod-lt (s .args .i) (states s)
 
-inside : (c : tie.After-owed) → let n = begun c .args .g .states in c .owed .result * (n * n) + begun c .args .i < length (begun c .args .table .now)
-inside c = let a = begun c .args in seat-lt (a .g) (a .marks .now) (a .table .now) (begun c .pre .0) (c .owed .result) (a .i) (bit-lt c) (begun c .pre .1)
+-- the number that the code adds up
+abbrev index : tie.After-owed → ℕ
+index c = let a = begun c .args in c .owed .result * (a .g .states * a .g .states) + a .i
+
+index-is : (c : tie.After-owed) → let a = begun c .args in index c ≡ pair (bare (a .g) (a .marks .now)) (c .owed .result) (a .i / a .g .states) (a .i % a .g .states)
+index-is c = let a = begun c .args in omega (arith, div-add-mod' (a .i) (a .g .states))
+
+small : (c : tie.After-owed) → index c < 8192
+small c =
+    let s = begun c in
+    let a = s .args in
+    omega (arith, index-is c, seat-small (a .g) (a .marks .now) (a .table .now) (s .pre .0) (c .owed .result) (a .i / a .g .states) (a .i % a .g .states) (bit-lt c) (red-lt s) (blue-lt s))
+
+inside : (c : tie.After-owed) → index c < length (begun c .args .table .now)
+inside c =
+    let s = begun c in
+    let a = s .args in
+    omega (arith, index-is c, seat-lt (a .g) (a .marks .now) (a .table .now) (s .pre .0) (c .owed .result) (a .i / a .g .states) (a .i % a .g .states) (bit-lt c) (red-lt s) (blue-lt s))
+
+square : (c : tie.After-owed) → begun c .args .g .states * begun c .args .g .states ≤ 4096
+square c = let s = begun c in square-most (s .args .g) (s .args .marks .now) (s .args .table .now) (s .pre .0)
 
 -- the entry at the beginning of pair i, and T
 abbrev beginning : tie.After-owed → ℕ
@@ -55,7 +75,7 @@ abbrev top : tie.After-owed → ℕ
 top c = ceiling (bare (begun c .args .g) (begun c .args .marks .now)) (begun c .args .g .mode)
 
 -- the entry that is read is that one
-read : (c : tie.After-owed) → let a = begun c .args in at (a .table .now) (c .owed .result * (a .g .states * a .g .states) + a .i) ≡ beginning c
+read : (c : tie.After-owed) → at (begun c .args .table .now) (index c) ≡ beginning c
 read c =
     let a = begun c .args in
     let n = a .g .states in
@@ -67,7 +87,7 @@ div-owed c = omega (arith, states (c .before .before))
 shared-slice-read-owed : tie.Need-shared-slice-read-owed
 shared-slice-read-owed c =
     let s = c .before .before .before in
-    omega (arith, div-lt-iff-lt-mul (states s) .1 (s .pre .1), s .pre .0 .marked)
+    omega (arith, red-lt s, s .pre .0 .marked)
 
 rem-owed : tie.Need-rem-owed
 rem-owed c = omega (arith, states (c .before .before .before))
@@ -75,7 +95,7 @@ rem-owed c = omega (arith, states (c .before .before .before))
 shared-slice-read-owed-2 : tie.Need-shared-slice-read-owed-2
 shared-slice-read-owed-2 c =
     let s = c .before .before .before .before in
-    omega (arith, mod-lt (s .args .i) (states s), s .pre .0 .marked)
+    omega (arith, blue-lt s, s .pre .0 .marked)
 
 owed-requires : tie.Need-owed-requires
 owed-requires c κs = search needs
@@ -84,13 +104,13 @@ mul-if1 : tie.Need-mul-if1
 mul-if1 c = omega (arith, square c)
 
 mul-if1-2 : tie.Need-mul-if1-2
-mul-if1-2 c = omega (arith, layer c)
+mul-if1-2 c = omega (arith, small c)
 
 add-if1 : tie.Need-add-if1
-add-if1 c = omega (arith, layer c, square c, begun c .pre .1)
+add-if1 c = omega (arith, small c)
 
 mul-if1-3 : tie.Need-mul-if1-3
-mul-if1-3 c = omega (arith, layer c, square c, begun c .pre .1)
+mul-if1-3 c = omega (arith, small c)
 
 shared-slice-read-if1 : tie.Need-shared-slice-read-if1
 shared-slice-read-if1 c = omega (arith, inside (c .before))

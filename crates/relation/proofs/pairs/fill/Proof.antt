@@ -94,9 +94,9 @@ returns c =
     let all : l .loop .i ≡ a .g .states * a .g .states = past ∙ begun l .pre .1 in (
       l .loop .inv .3 ∙ ap (count (byteIn l)) all,
       l .loop .inv .2
-      ∙ ap (λ (x : List ℕ). map (byteIn l) (ascending 0 (l .loop .i)) ++ x) (ap (λ (n : ℕ). drop n (a .out .now)) past ∙ drop-length (a .out .now))
-      ∙ append-nil (map (byteIn l) (ascending 0 (l .loop .i)))
-      ∙ ap (λ (n : ℕ). map (byteIn l) (ascending 0 n)) all,
+          ∙ ap (λ (x : List ℕ). map (byteIn l) (ascending 0 (l .loop .i)) ++ x) (ap (λ (n : ℕ). drop n (a .out .now)) past ∙ drop-length (a .out .now))
+          ∙ append-nil (map (byteIn l) (ascending 0 (l .loop .i)))
+          ∙ ap (λ (n : ℕ). map (byteIn l) (ascending 0 n)) all,
     )
 
 pub fill-spec : {M : Type 1} → statement M

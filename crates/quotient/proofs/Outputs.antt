@@ -1,0 +1,72 @@
+-- What `quotient` does where an arena was opened, by the lengths of its outputs.
+use mathlib.Core.Path.{_≡_, sym, ap, _∙_}
+use mathlib.Core.Logic.{_≢_}
+use mathlib.Core.Bool.{and-false}
+use mathlib.Core.List.{List}
+use Prim.Native.Nat.{ℕ}
+use borrow.Author.Tests.{eq-eqb, ne-eqb}
+use lib.ListN.{length}
+use Rattle.automaton.specs.declared.Refusal.the-variants.{OutputLength}
+use Rattle.automaton.specs.Answer.{refused, Fault, none, fault}
+use Rattle.automaton.specs.Effect.{Effect, does}
+use Rattle.automaton.specs.Board.{Board}
+use Rattle.simulation.specs.Answers.{settled}
+use Rattle.arena.specs.declared.Arena.{Arena}
+use Rattle.arena.specs.declared.Opened.the-variants.{Open}
+use Rattle.arena.specs.Arena.{boardIn, opened}
+use Rattle.arena.specs.Job.{Job, modeOf}
+use Rattle.arena.proofs.Open.{open-is}
+use Rattle.arena.proofs.Opening.{open-effect}
+use Rattle.quotient.specs.Calls.{Buffers, merging, outputFault, quotienting}
+
+-- ---- refusal 16
+
+module _ (B : Board) (x : Buffers) where
+  classes-misfit : length (x .classes) ≢ B .n → outputFault B x ≡ fault OutputLength
+  classes-misfit h = simp (ne-eqb (length (x .classes)) (B .n) h)
+
+  marks-misfit : length (x .marks) ≢ B .n → outputFault B x ≡ fault OutputLength
+  marks-misfit h = simp (ne-eqb (length (x .marks)) (B .n) h, and-false)
+
+  moves-misfit : length (x .moves) ≢ length (B .moves) → outputFault B x ≡ fault OutputLength
+  moves-misfit h = simp (ne-eqb (length (x .moves)) (length (B .moves)) h, and-false)
+
+  outputs-fit : length (x .classes) ≡ B .n → length (x .marks) ≡ B .n → length (x .moves) ≡ length (B .moves) → outputFault B x ≡ none
+  outputs-fit c m v = simp (eq-eqb (length (x .classes)) (B .n) c, eq-eqb (length (x .marks)) (B .n) m, eq-eqb (length (x .moves)) (length (B .moves)) v)
+
+-- ---- the call
+
+module _ (j : Job) (x : Buffers) (g : Arena) (o : opened j (length (x .table)) ≡ Open g) where
+  -- the arena has the board's states
+  pub states-are : g .states ≡ j .board .n
+  states-are = ap (λ (h : Arena). h .states) (sym (open-is j (x .table) g o .1))
+
+  -- what the call does, by what is at fault with the outputs
+  abbrev doing : Fault → Effect Buffers
+  doing f = does f x (merging (j .board) (modeOf (j .mode)) (j .start) (settled (j .board) (modeOf (j .mode)) .table))
+
+  -- the refusals 1 to 9 do not apply
+  by-fault : (f : Fault) → outputFault (j .board) x ≡ f → quotienting j x ≡ doing f
+  unfolding quotienting
+  by-fault f e = open-effect j (x .table) x (doing (outputFault (j .board) x)) g o ∙ ap doing e
+
+  misfit : outputFault (j .board) x ≡ fault OutputLength → quotienting j x ≡ record { answer = refused OutputLength; left = x }
+  misfit e = by-fault (fault OutputLength) e
+
+  pub classes-refused : length (x .classes) ≢ g .states → quotienting j x ≡ record { answer = refused OutputLength; left = x }
+  classes-refused h = misfit (classes-misfit (j .board) x (λ e. h (e ∙ sym states-are)))
+
+  pub marks-refused : length (x .marks) ≢ g .states → quotienting j x ≡ record { answer = refused OutputLength; left = x }
+  marks-refused h = misfit (marks-misfit (j .board) x (λ e. h (e ∙ sym states-are)))
+
+  pub moves-refused : length (x .moves) ≢ length (j .board .moves) → quotienting j x ≡ record { answer = refused OutputLength; left = x }
+  moves-refused h = misfit (moves-misfit (j .board) x h)
+
+  -- the quotient in the arena, by a table that is the settled one
+  pub quotient-does : length (x .classes) ≡ g .states → length (x .marks) ≡ g .states → length (x .moves) ≡ length (j .board .moves)
+      → (t : List ℕ) → t ≡ settled (j .board) (modeOf (j .mode)) .table
+      → quotienting j x ≡ merging (boardIn g (j .board .marks) (j .board .moves)) (g .mode) (j .start) t
+  quotient-does c m v t e =
+      by-fault none (outputs-fit (j .board) x (c ∙ states-are) (m ∙ states-are) v)
+      ∙ ap (merging (j .board) (modeOf (j .mode)) (j .start)) (sym e)
+      ∙ ap (λ (h : Arena). merging (boardIn h (j .board .marks) (j .board .moves)) (h .mode) (j .start) t) (open-is j (x .table) g o .1)
