@@ -56,7 +56,7 @@ pub refused-not : (r : Refusal) (a : Answer) → a .number ≡ 0 → refused r �
 refused-not r a z e = let n : numberOf r ≡ a .number = ap (λ (x : Answer). x .number) e in omega (arith, refusal-numbered r)
 
 -- what was at fault, from the answer of a call
-unless-refused : (f : Fault) (a : Answer) (r : Refusal) → a .number ≡ 0 → refused r ≡ unless f a → f ≡ fault r
+pub unless-refused : (f : Fault) (a : Answer) (r : Refusal) → a .number ≡ 0 → refused r ≡ unless f a → f ≡ fault r
 unless-refused none a r z e = absurd (refused-not r a z e)
 unless-refused (fault s) a r z e = ap fault (sym (one-refusal r s e))
 

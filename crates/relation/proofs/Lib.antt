@@ -1,1 +1,4 @@
 pub mod Scanned
+pub mod Tested
+pub mod Effects
+pub mod Bare
