@@ -10,3 +10,4 @@ pub mod Triples
 pub mod Images
 pub mod Fewer
 pub mod Quotient
+pub mod Equal

@@ -3,3 +3,5 @@ pub mod Turns
 pub mod Bytes
 pub mod Bare
 pub mod Outputs
+pub mod Accepted
+pub mod One

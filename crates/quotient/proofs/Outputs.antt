@@ -31,7 +31,7 @@ module _ (B : Board) (x : Buffers) where
   moves-misfit : length (x .moves) ≢ length (B .moves) → outputFault B x ≡ fault OutputLength
   moves-misfit h = simp (ne-eqb (length (x .moves)) (length (B .moves)) h, and-false)
 
-  outputs-fit : length (x .classes) ≡ B .n → length (x .marks) ≡ B .n → length (x .moves) ≡ length (B .moves) → outputFault B x ≡ none
+  pub outputs-fit : length (x .classes) ≡ B .n → length (x .marks) ≡ B .n → length (x .moves) ≡ length (B .moves) → outputFault B x ≡ none
   outputs-fit c m v = simp (eq-eqb (length (x .classes)) (B .n) c, eq-eqb (length (x .marks)) (B .n) m, eq-eqb (length (x .moves)) (length (B .moves)) v)
 
 -- ---- the call
@@ -63,10 +63,10 @@ module _ (j : Job) (x : Buffers) (g : Arena) (o : opened j (length (x .table)) �
   moves-refused h = misfit (moves-misfit (j .board) x h)
 
   -- the quotient in the arena, by a table that is the settled one
-  pub quotient-does : length (x .classes) ≡ g .states → length (x .marks) ≡ g .states → length (x .moves) ≡ length (j .board .moves)
+  pub merge-does : length (x .classes) ≡ g .states → length (x .marks) ≡ g .states → length (x .moves) ≡ length (j .board .moves)
       → (t : List ℕ) → t ≡ settled (j .board) (modeOf (j .mode)) .table
       → quotienting j x ≡ merging (boardIn g (j .board .marks) (j .board .moves)) (g .mode) (j .start) t
-  quotient-does c m v t e =
+  merge-does c m v t e =
       by-fault none (outputs-fit (j .board) x (c ∙ states-are) (m ∙ states-are) v)
       ∙ ap (merging (j .board) (modeOf (j .mode)) (j .start)) (sym e)
       ∙ ap (λ (h : Arena). merging (boardIn h (j .board .marks) (j .board .moves)) (h .mode) (j .start) t) (open-is j (x .table) g o .1)

@@ -2,3 +2,5 @@ pub mod Scanned
 pub mod Tested
 pub mod Effects
 pub mod Bare
+pub mod Accepted
+pub mod One

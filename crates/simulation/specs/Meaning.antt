@@ -3,13 +3,14 @@ use mathlib.Core.Path.{_≡_}
 use mathlib.Core.Logic.{_⊎_}
 use mathlib.Core.Bool.{true, not, _&&_}
 use mathlib.Core.List.{List, List·Memᴰ}
-use Prim.Native.Nat.{ℕ, zero, suc, _+_, _≤_}
+use Prim.Native.Nat.{ℕ, zero, suc, _+_, _≤_, _<_}
+use Rattle.games.specs.Game.{at}
 use Rattle.automaton.specs.declared.Mode.{Mode}
 use Rattle.automaton.specs.declared.Mode.the-variants.{Delayed}
 use Rattle.automaton.specs.Board.{Board, accepts}
-use Rattle.simulation.specs.Position.{Position, spoiler, duplicator}
-use Rattle.simulation.specs.Rules.{bit, steps}
-use Rattle.simulation.specs.Answers.{entryAfter}
+use Rattle.simulation.specs.Position.{Position, spoiler, duplicator, number, Fits}
+use Rattle.simulation.specs.Rules.{bit, steps, ceiling}
+use Rattle.simulation.specs.Answers.{entryAfter, replies}
 use Rattle.simulation.specs.Moves.{Moves}
 use Rattle.simulation.specs.Won.{Choices, Keeps, Walks, here, onward, Met}
 
@@ -20,6 +21,10 @@ pub record LowestLeast (B : Board) (m : Mode) (t : List ℕ) (b q r a s : ℕ) :
   pub move : Moves B r a s
   pub least : (r′ : ℕ) → Moves B r a r′ → entryAfter B m t b q s ≤ entryAfter B m t b q r′
   pub lowest : (r′ : ℕ) → Moves B r a r′ → entryAfter B m t b q r′ ≤ entryAfter B m t b q s → s ≤ r′
+
+-- "following the replies": wherever Duplicator's position is not lost, σ takes the reply
+abbrev pub Heeds : Board → Mode → (table : List ℕ) → Choices → Type 0
+Heeds B m t σ = (b q r a : ℕ) → Fits B m (duplicator b q r a) → at t (number B m (duplicator b q r a)) < ceiling B m → σ b q r a ≡ replies B m t b q r a
 
 -- ---- mode 2
 

@@ -39,7 +39,7 @@ entry-line g t =
     failsAt-line AboveCeiling (above (g .T) t) _ (length t)
     (Iff·trans (λ a v l. ltb-false (g .T) (at t v) (a v l), λ a v l. le-ltb (g .T) (at t v) (a v l)) (capped-all g t))
 
-position-line : (g : Game) (v : ℕ) → Line (positionFault g v) (v < g .P)
+pub position-line : (g : Game) (v : ℕ) → Line (positionFault g v) (v < g .P)
 position-line g v = fails-line _ _ PositionNumber (leb-false (g .P) v, lt-leb (g .P) v)
 
 -- ---- accepted

@@ -17,7 +17,7 @@ use Rattle.arena.proofs.Open.{open-fault, open-line, open-ready, ready-again}
 use Rattle.arena.proofs.Opening.{shut-effect}
 use Rattle.table.proofs.Accepted.{settle-does}
 use Rattle.quotient.specs.Calls.{Buffers, buffers, quotienting}
-use Rattle.quotient.proofs.Outputs.{classes-refused, marks-refused, moves-refused, quotient-does, states-are}
+use Rattle.quotient.proofs.Outputs.{classes-refused, marks-refused, moves-refused, merge-does, states-are}
 use Rattle.quotient.proofs.quotient.Statement.{statement}
 use Rattle.quotient.proofs.quotient.Tie as tie
 
@@ -133,7 +133,7 @@ returns-5 c =
     let d = entered o in
     let three = e .before .before in
     let does =
-    quotient-does (job d) (lent d) (arena o) (is-open o) (omega (arith, three .before .before .if1 .left)) (omega (arith, three .before .if2 .left)) (omega (arith, three .if3 .left)) (table e) (table-is e) in
+    merge-does (job d) (lent d) (arena o) (is-open o) (omega (arith, three .before .before .if1 .left)) (omega (arith, three .before .if2 .left)) (omega (arith, three .if3 .left)) (table e) (table-is e) in
     let done = both (sym does) in
     (f .merge .ensures .0 ∙ done .0, f .merge .ensures .1 ∙ done .1)
 

@@ -1,0 +1,63 @@
+-- When `quotient` is accepted, what it then does, and that a refused one leaves all four buffers as they were.
+use mathlib.Core.Path.{_≡_, refl, ap, _∙_}
+use mathlib.Core.Logic.{_≢_, _↔_, Iff·trans}
+use mathlib.Core.Bool.{Bool, true, _&&_, and-eq-true-iff}
+use Prim.Native.Nat.{ℕ}
+use lib.Dec.{eqb}
+use lib.ListN.{length}
+use borrow.Author.Tests.{eqb-true, eq-eqb, not-false}
+use Rattle.automaton.specs.declared.Refusal.the-variants.{OutputLength}
+use Rattle.automaton.specs.Answer.{Fault}
+use Rattle.automaton.specs.Board.{Board}
+use Rattle.automaton.specs.Effect.{does, Refuses}
+use Rattle.automaton.proofs.Effects.{always, does-number, does-refuse}
+use Rattle.automaton.proofs.Fault.{Line, fails-line}
+use Rattle.simulation.specs.Answers.{settled}
+use Rattle.arena.specs.Job.{Job, modeOf}
+use Rattle.arena.specs.Refusals.{openFault, Fitting}
+use Rattle.arena.proofs.Open.{open-line}
+use Rattle.arena.proofs.Opening.{opening-does}
+use Rattle.quotient.specs.Calls.{Buffers, outputFault, merging, quotienting}
+use Rattle.quotient.proofs.Outputs.{outputs-fit}
+
+-- the outputs have the lengths that document 01 gives them
+abbrev pub Sized : Board → Buffers → Type 0
+Sized B x = (length (x .classes) ≡ B .n) × (length (x .marks) ≡ B .n) × (length (x .moves) ≡ length (B .moves))
+
+output-line : (B : Board) (x : Buffers) → Line (outputFault B x) (Sized B x)
+output-line B x = (λ e. sized (fails-line _ _ OutputLength (λ e. not-false (classes && marks && moves) e, λ e. rw e) .0 e), λ h. outputs-fit B x (h .0) (h .1) (h .2))
+  where
+    classes : Bool
+    classes = eqb (length (x .classes)) (B .n)
+
+    marks : Bool
+    marks = eqb (length (x .marks)) (B .n)
+
+    moves : Bool
+    moves = eqb (length (x .moves)) (length (B .moves))
+
+    sized : (classes && marks && moves) ≡ true → Sized B x
+    sized e =
+        let a = and-eq-true-iff (classes && marks) moves .0 e in
+        let b = and-eq-true-iff classes marks .0 (a .0) in
+        (eqb-true _ _ (b .0), eqb-true _ _ (b .1), eqb-true _ _ (a .1))
+
+module _ (j : Job) (x : Buffers) where
+  pub quotient-accepted : (quotienting j x .answer .number ≡ 0) ↔ (Fitting j (x .table) × Sized (j .board) x)
+  unfolding quotienting
+  quotient-accepted =
+      Iff·trans
+      (does-number (openFault j (length (x .table))) x _ _ _ (open-line j (x .table))
+      (does-number (outputFault (j .board) x) x _ _ _ (output-line (j .board) x)
+      (always (merging (j .board) (modeOf (j .mode)) (j .start) (settled (j .board) (modeOf (j .mode)) .table) .answer) refl)))
+      (λ h. (h .0, h .1 .0), λ h. (h .0, (h .1, tt)))
+
+  pub quotient-does : Fitting j (x .table) → Sized (j .board) x → quotienting j x ≡ merging (j .board) (modeOf (j .mode)) (j .start) (settled (j .board) (modeOf (j .mode)) .table)
+  unfolding quotienting
+  quotient-does f s =
+      let done = merging (j .board) (modeOf (j .mode)) (j .start) (settled (j .board) (modeOf (j .mode)) .table) in
+      opening-does j (x .table) x (does (outputFault (j .board) x) x done) f ∙ ap (λ (k : Fault). does k x done) (output-line (j .board) x .1 s)
+
+  pub quotient-refused : quotienting j x .answer .number ≢ 0 → Refuses x (quotienting j x)
+  unfolding quotienting
+  quotient-refused = does-refuse (openFault j (length (x .table))) x _ (does-refuse (outputFault (j .board) x) x _ (λ n. absurd (n refl)))
