@@ -17,12 +17,8 @@ use Rattle.arena.specs.Job.{Job, modeOf}
 use Rattle.arena.specs.Refusals.{openFault, Fitting}
 use Rattle.arena.proofs.Open.{open-line}
 use Rattle.arena.proofs.Opening.{opening-does}
-use Rattle.quotient.specs.Calls.{Buffers, outputFault, merging, quotienting}
+use Rattle.quotient.specs.Calls.{Buffers, Sized, outputFault, merging, quotienting}
 use Rattle.quotient.proofs.Outputs.{outputs-fit}
-
--- the outputs have the lengths that document 01 gives them
-abbrev pub Sized : Board → Buffers → Type 0
-Sized B x = (length (x .classes) ≡ B .n) × (length (x .marks) ≡ B .n) × (length (x .moves) ≡ length (B .moves))
 
 output-line : (B : Board) (x : Buffers) → Line (outputFault B x) (Sized B x)
 output-line B x = (λ e. sized (fails-line _ _ OutputLength (λ e. not-false (classes && marks && moves) e, λ e. rw e) .0 e), λ h. outputs-fit B x (h .0) (h .1) (h .2))

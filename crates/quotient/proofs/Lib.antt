@@ -4,4 +4,5 @@ pub mod Bytes
 pub mod Bare
 pub mod Outputs
 pub mod Accepted
+pub mod Meaning
 pub mod One

@@ -1,9 +1,10 @@
 -- "Quotient", for every input: what it answers, and all bytes of the four buffers lent to it.
+use mathlib.Core.Path.{_≡_}
 use mathlib.Core.Bool.{_&&_, not}
 use mathlib.Core.List.{List, [], _∷_}
-use Prim.Native.Nat.{ℕ}
+use Prim.Native.Nat.{ℕ, _*_}
 use lib.Dec.{eqb}
-use lib.ListN.{length}
+use lib.ListN.{length, getD, take}
 use Rattle.automaton.specs.declared.Mode.{Mode}
 use Rattle.automaton.specs.declared.Refusal.the-variants.{OutputLength}
 use Rattle.automaton.specs.Answer.{Answer, Fault, fails}
@@ -24,7 +25,11 @@ pub record Buffers : Type 0 where
 abbrev pub buffers : (table classes marks moves : List ℕ) → Buffers
 buffers t classes marks moves = record { table = t; classes = classes; marks = marks; moves = moves }
 
--- 16: "an output length is wrong": n bytes, n bytes, and as many as the input's moves have
+-- the outputs have "n bytes", "n bytes", and "same length as the input's moves"
+abbrev pub Sized : Board → Buffers → Type 0
+Sized B x = (length (x .classes) ≡ B .n) × (length (x .marks) ≡ B .n) × (length (x .moves) ≡ length (B .moves))
+
+-- 16: "an output length is wrong"
 abbrev pub outputFault : Board → Buffers → Fault
 outputFault B x =
     fails (not (eqb (length (x .classes)) (B .n) && eqb (length (x .marks)) (B .n) && eqb (length (x .moves)) (length (B .moves)))) OutputLength
@@ -44,3 +49,14 @@ unfoldable pub quotienting : Job → (lent : Buffers) → Effect Buffers
 quotienting j x =
     let m = modeOf (j .mode) in
     opening j (length (x .table)) x (does (outputFault (j .board) x) x (merging (j .board) m (j .start) (settled (j .board) m .table)))
+
+-- ---- reading it back
+
+-- the automaton that the written bytes make up, with k letters: as many marks and moves as the answer counts, without the unused bytes
+abbrev pub written : (k : ℕ) → Effect Buffers → Board
+written k e = record {
+  n = getD (e .answer .values) 0 0;
+  k = k;
+  marks = take (getD (e .answer .values) 0 0) (e .left .marks);
+  moves = take (getD (e .answer .values) 1 0 * 3) (e .left .moves);
+}

@@ -18,7 +18,7 @@ use Rattle.automaton.specs.Board.{Board, Formed}
 use Rattle.automaton.specs.Effect.{Refuses}
 use Rattle.automaton.proofs.Effects.{unless-also, always, does-number, does-refuse}
 use Rattle.automaton.proofs.Fault.{Line, found, fails-line, failsAt-line, _then_, end, table-line, unless-number}
-use Rattle.simulation.specs.Answers.{related, replies, turnFault, lostFault, moveFault, blueMoves, blueReply}
+use Rattle.simulation.specs.Answers.{relation, related, replies, turnFault, lostFault, moveFault, blueMoves, blueReply}
 use Rattle.simulation.specs.Position.{duplicator, pairs, number, duplicatorAt, position, Fits}
 use Rattle.simulation.specs.Rules.{ceiling, game}
 use Rattle.simulation.proofs.Position.{spoilers-turn, duplicators-turn, number-lt, number-position, position-fits}
@@ -28,8 +28,8 @@ use Rattle.arena.specs.Refusals.{openFault, Proper, Fitting}
 use Rattle.arena.proofs.Open.{open-line}
 use Rattle.table.specs.Calls.{entryFault, positionFault, restless}
 use Rattle.table.proofs.Accepted.{entry-line, position-line}
-use Rattle.relation.specs.Calls.{restFault, outputFault, relating, replying}
-use Rattle.relation.proofs.Effects.{replying-does}
+use Rattle.relation.specs.Calls.{restFault, outputFault, relating, replying, Sized, Answerable}
+use Rattle.relation.proofs.Effects.{relating-does, replying-does}
 
 -- ---- the lines 12 and 16
 
@@ -43,10 +43,15 @@ output-line B bytes =
     fails-line _ _ OutputLength
     (λ e. eqb-true bytes (B .n * B .n) (not-false (eqb bytes (B .n * B .n)) e), λ e. simp (eq-eqb bytes (B .n * B .n) e))
 
+-- none of the refusals 1 to 10 and 12 applies
+resting : (j : Job) (t : List ℕ) → Proper j → AtRest (gameOf j) t
+    → (openFault j (length t) ≡ none) × ((entryFault (gameOf j) t ≡ none) × (restFault (gameOf j) t ≡ none))
+resting j t p r = (open-line j t .1 (p, r .entries), (entry-line (gameOf j) t .1 (r .capped), rest-line (gameOf j) t .1 (r .rest)))
+
 -- ---- relation
 
 module _ (j : Job) (t out : List ℕ) where
-  pub relation-accepted : (relating j t out .answer .number ≡ 0) ↔ (Proper j × (AtRest (gameOf j) t × (length out ≡ j .board .n * j .board .n)))
+  pub relation-accepted : (relating j t out .answer .number ≡ 0) ↔ (Proper j × (AtRest (gameOf j) t × Sized (j .board) out))
   unfolding relating
   relation-accepted =
       Iff·trans
@@ -58,6 +63,10 @@ module _ (j : Job) (t out : List ℕ) where
         λ h. let r = h .1 .0 in ((h .0, r .entries), ((r .capped, (r .rest, (h .1 .1, tt))), tt)),
       )
 
+  pub relation-does : Proper j → AtRest (gameOf j) t → Sized (j .board) out
+      → relating j t out ≡ record { answer = valued (related (j .board) (modeOf (j .mode)) t); left = relation (j .board) (modeOf (j .mode)) t }
+  relation-does p r s = let (o, e) = resting j t p r in relating-does j t o out e s
+
   pub relation-refused : relating j t out .answer .number ≢ 0 → Refuses out (relating j t out)
   unfolding relating
   relation-refused =
@@ -65,11 +74,6 @@ module _ (j : Job) (t out : List ℕ) where
       (does-refuse (firstFault (entryFault (gameOf j) t ∷ restFault (gameOf j) t ∷ outputFault (j .board) (length out) ∷ [])) out _ (λ n. absurd (n refl)))
 
 -- ---- reply
-
--- none of the refusals 1 to 10 and 12 applies
-resting : (j : Job) (t : List ℕ) → Proper j → AtRest (gameOf j) t
-    → (openFault j (length t) ≡ none) × ((entryFault (gameOf j) t ≡ none) × (restFault (gameOf j) t ≡ none))
-resting j t p r = (open-line j t .1 (p, r .entries), (entry-line (gameOf j) t .1 (r .capped), rest-line (gameOf j) t .1 (r .rest)))
 
 -- at a Duplicator's position below T the answer is the reply
 pub reply-does : (j : Job) (t : List ℕ) → Proper j → AtRest (gameOf j) t → (b q r a : ℕ) → let B = j .board in let m = modeOf (j .mode) in
@@ -100,11 +104,7 @@ module _ (j : Job) (t : List ℕ) (v : ℕ) where
   lost-line : Line (lostFault (gameOf j .T) (at t v)) (at t v < gameOf j .T)
   lost-line = fails-line _ _ LostPosition (leb-false (gameOf j .T) (at t v), lt-leb (gameOf j .T) (at t v))
 
-  -- what an accepted `reply` needs: "On a table at rest, .. at a Duplicator position that is not lost"
-  abbrev pub Answerable : Type 0
-  Answerable = Proper j × (AtRest (gameOf j) t × ((v < gameOf j .P) × ((pairs (j .board) (modeOf (j .mode)) ≤ v) × (at t v < gameOf j .T))))
-
-  pub reply-accepted : (replying j t v .number ≡ 0) ↔ Answerable
+  pub reply-accepted : (replying j t v .number ≡ 0) ↔ Answerable j t v
   unfolding replying
   reply-accepted = (there, back)
     where
@@ -114,7 +114,7 @@ module _ (j : Job) (t : List ℕ) (v : ℕ) where
       m : Mode
       m = modeOf (j .mode)
 
-      there : replying j t v .number ≡ 0 → Answerable
+      there : replying j t v .number ≡ 0 → Answerable j t v
       there z =
           let lines = table-line (entry-line (gameOf j) t then position-line (gameOf j) v then rest-line (gameOf j) t then end) in
           let faults = turnFault (position B m v) ∷ lostFault (ceiling B m) (at t v) ∷ moveFault (blueMoves B (position B m v)) ∷ [] in
@@ -127,7 +127,7 @@ module _ (j : Job) (t : List ℕ) (v : ℕ) where
           let d = all .1 .1 in
           (all .0 .0, (record { entries = all .0 .1; capped = e .0; rest = e .1 .1 .0 }, (e .1 .0, (d .0, d .1 .0))))
 
-      back : Answerable → replying j t v .number ≡ 0
+      back : Answerable j t v → replying j t v .number ≡ 0
       back (p, (s, (h, (k, l)))) =
           let w = v - pairs B m in
           let turn = duplicators-turn B m v k in

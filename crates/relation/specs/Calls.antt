@@ -1,17 +1,20 @@
 -- The calls that read a table at rest, for every input: what each answers, and the bytes that `relation` leaves.
+use mathlib.Core.Path.{_≡_}
 use mathlib.Core.Bool.{not}
 use mathlib.Core.List.{List, [], _∷_}
-use Prim.Native.Nat.{ℕ, _*_}
+use Prim.Native.Nat.{ℕ, _*_, _≤_, _<_}
 use lib.Dec.{eqb}
 use lib.ListN.{length}
-use Rattle.games.specs.Game.{Game}
+use Rattle.games.specs.Game.{Game, at}
+use Rattle.games.specs.Lift.{AtRest}
 use Rattle.automaton.specs.declared.Refusal.the-variants.{NotAtRest, OutputLength}
 use Rattle.automaton.specs.Answer.{Answer, valued, Fault, fails, failsAt, firstFault, unless}
 use Rattle.automaton.specs.Board.{Board}
 use Rattle.automaton.specs.Effect.{Effect, does}
 use Rattle.simulation.specs.Answers.{relation, related, replyAt}
 use Rattle.arena.specs.Job.{Job, modeOf, gameOf}
-use Rattle.arena.specs.Refusals.{openFault, opening}
+use Rattle.simulation.specs.Position.{pairs}
+use Rattle.arena.specs.Refusals.{openFault, Proper, opening}
 use Rattle.table.specs.Calls.{entryFault, positionFault, restless}
 
 -- ---- the refusals 12 and 16
@@ -39,3 +42,13 @@ unfoldable pub replying : Job → (table : List ℕ) → (v : ℕ) → Answer
 replying j t v =
     unless (openFault j (length t))
     (unless (firstFault (entryFault (gameOf j) t ∷ positionFault (gameOf j) v ∷ restFault (gameOf j) t ∷ [])) (replyAt (j .board) (modeOf (j .mode)) t v))
+
+-- ---- what a call must be given, beside a well-formed automaton, a mode and a table at rest, for no refusal to apply
+
+-- "n² bytes"
+abbrev pub Sized : Board → (bytes : List ℕ) → Type 0
+Sized B out = length out ≡ B .n * B .n
+
+-- "On a table at rest, the reply at a Duplicator position that is not lost"
+abbrev pub Answerable : Job → (table : List ℕ) → (v : ℕ) → Type 0
+Answerable j t v = Proper j × (AtRest (gameOf j) t × ((v < gameOf j .P) × ((pairs (j .board) (modeOf (j .mode)) ≤ v) × (at t v < gameOf j .T))))

@@ -61,7 +61,7 @@ lift-accepted j t v = does-number (openFault j (length t)) t _ _ _ (open-line j 
         Iff·trans (does-number (firstFault (entryFault (gameOf j) t ∷ positionFault (gameOf j) v ∷ [])) t _ _ _ (table-line (entry-line (gameOf j) t then position-line (gameOf j) v then end)) (always (valued (rise (gameOf j) t v)) refl))
         (λ h. (h .0 .0, h .0 .1 .0), λ h. ((h .0, (h .1, tt)), tt))
 
-rest-number : (P w : ℕ) → restAt P w .number ≡ 0
+pub rest-number : (P w : ℕ) → restAt P w .number ≡ 0
 rest-number P w = go (ltb w P)
   where
     go : (b : Bool) → cond b (placed w) (valued 1) .number ≡ 0

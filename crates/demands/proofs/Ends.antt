@@ -1,0 +1,44 @@
+-- Calls that are lent no buffer end properly as well, and results that meet a promise are the same.
+use mathlib.Core.Path.{_≡_, refl, sym, _∙_}
+use mathlib.Core.Logic.{_≢_}
+use mathlib.Core.List.{List, [], _∷_}
+use Prim.Native.Nat.{ℕ}
+use lib.ListN.{length}
+use Rattle.automaton.specs.Answer.{Answer, accepted, valued, Fault, none, fault, firstFault, unless}
+use Rattle.automaton.specs.Board.{Board}
+use Rattle.automaton.specs.Check.{automatonFault, checked}
+use Rattle.automaton.specs.First.{first}
+use Rattle.simulation.specs.Answers.{blueReply}
+use Rattle.simulation.specs.Position.{position}
+use Rattle.arena.specs.Job.{Job, modeOf, gameOf}
+use Rattle.arena.specs.Refusals.{openFault}
+use Rattle.table.specs.Calls.{entryFault, positionFault, restless, rested, resting}
+use Rattle.table.proofs.Accepted.{rest-number}
+use Rattle.relation.specs.Calls.{restFault, replying}
+use Rattle.automaton.specs.Effect.{Effect, Refuses}
+use Rattle.demands.specs.Ends.{answering, One}
+
+-- a refusal, or what comes after the refusals
+pub unless-refuses : (f : Fault) (a : Answer) → (a .number ≢ 0 → Refuses tt (answering a)) → unless f a .number ≢ 0 → Refuses tt (answering (unless f a))
+unless-refuses none a k n = k n
+unless-refuses (fault r) a k n = (r, refl)
+
+pub check-refuses : (B : Board) (start : ℕ) → checked B start .number ≢ 0 → Refuses tt (answering (checked B start))
+unfolding checked
+check-refuses B start = unless-refuses (automatonFault B start) accepted (λ n. absurd (n refl))
+
+pub rest-refuses : (j : Job) (t : List ℕ) → resting j t .number ≢ 0 → Refuses tt (answering (resting j t))
+unfolding resting rested
+rest-refuses j t =
+    unless-refuses (openFault j (length t)) _
+    (unless-refuses (entryFault (gameOf j) t) _ (λ n. absurd (n (rest-number (gameOf j .P) (first (restless (gameOf j) t) 0 (gameOf j .P))))))
+
+pub reply-refuses : (j : Job) (t : List ℕ) (v : ℕ) → replying j t v .number ≢ 0 → Refuses tt (answering (replying j t v))
+unfolding replying
+reply-refuses j t v =
+    unless-refuses (openFault j (length t)) _
+    (unless-refuses (firstFault (entryFault (gameOf j) t ∷ positionFault (gameOf j) v ∷ restFault (gameOf j) t ∷ [])) _
+    (unless-refuses _ (valued (blueReply (j .board) (modeOf (j .mode)) t (position (j .board) (modeOf (j .mode)) v))) (λ n. absurd (n refl))))
+
+pub one : {R X : Type 0} (of : R → Answer) (e : Effect X) → ((r s : R) → of r ≡ of s → r ≡ s) → One of e
+one of e same r s x y p q = (same r s (p .answers ∙ sym (q .answers)), p .leaves ∙ sym (q .leaves))

@@ -1,0 +1,44 @@
+-- What demand 2 needs of the calls: the bytes that an accepted `relation` leaves, and that a choice which takes the replies follows them.
+use mathlib.Core.Path.{_≡_, sym, ap, _∙_}
+use mathlib.Core.List.{List}
+use Prim.Native.Nat.{ℕ, _<_}
+use lib.ListN.{length}
+use Rattle.games.specs.Game.{at}
+use Rattle.games.specs.Lift.{AtRest, Least}
+use Rattle.games.proofs.Settle.{settle-least}
+use Rattle.automaton.specs.Answer.{valued}
+use Rattle.automaton.specs.Effect.{Effect}
+use Rattle.simulation.specs.Answers.{settled, relation, replies}
+use Rattle.simulation.specs.Meaning.{Heeds}
+use Rattle.simulation.specs.Position.{duplicator, number, Fits}
+use Rattle.simulation.specs.Rules.{ceiling}
+use Rattle.simulation.specs.Won.{Choices}
+use Rattle.arena.specs.Job.{Job, modeOf, gameOf}
+use Rattle.arena.specs.Refusals.{Proper, Fitting}
+use Rattle.arena.proofs.Open.{open-line}
+use Rattle.table.specs.Calls.{settling, resting}
+use Rattle.table.proofs.Accepted.{settle-accepted, settle-does}
+use Rattle.table.proofs.AtRest.{rest-told}
+use Rattle.relation.specs.Calls.{relating, replying, Sized}
+use Rattle.relation.proofs.Accepted.{relation-accepted, relation-does, reply-does}
+use Rattle.demands.specs.Replies.{TakesReplies}
+
+-- the table that an accepted `settle` leaves is the settled one, which is the least at rest
+module _ (j : Job) (lent : List ℕ) (accepted : settling j lent .answer .number ≡ 0) where
+  pub settled-is : settling j lent .left ≡ settled (j .board) (modeOf (j .mode)) .table
+  settled-is = ap (λ (x : Effect (List ℕ)). x .left) (settle-does j lent (settle-accepted j lent .0 accepted))
+
+  pub settled-proper : Proper j
+  settled-proper = settle-accepted j lent .0 accepted .0
+
+-- the bytes of an accepted `relation`
+pub relation-left : (j : Job) (t out : List ℕ) → relating j t out .answer .number ≡ 0 → relating j t out .left ≡ relation (j .board) (modeOf (j .mode)) t
+relation-left j t out accepted =
+    let (p, (r, s)) = relation-accepted j t out .0 accepted in
+    ap (λ (x : Effect (List ℕ)). x .left) (relation-does j t out p r s)
+
+-- whoever takes the replies of a table at rest follows them
+pub takes-heeds : (j : Job) (t : List ℕ) → resting j t ≡ valued 1 → (σ : Choices) → TakesReplies j t σ → Heeds (j .board) (modeOf (j .mode)) t σ
+takes-heeds j t e σ takes b q r a h l =
+    let (p, s) = rest-told j t .0 e in
+    takes b q r a h (replies (j .board) (modeOf (j .mode)) t b q r a) (reply-does j t p s b q r a h l)

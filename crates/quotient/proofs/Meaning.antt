@@ -1,0 +1,102 @@
+-- What an accepted `quotient` merges: the classes are those of the states that win against each other, and the bytes written are the quotient.
+use mathlib.Core.Path.{_≡_, refl, sym, ap, _∙_, subst}
+use mathlib.Core.Logic.{_↔_, Iff·trans}
+use mathlib.Core.Bool.{true}
+use mathlib.Core.List.{List, _++_}
+use Prim.Native.Nat.{ℕ, _*_, _-_, _/_, _<_}
+use native.Mathlib.Omega.{arith}
+use lib.ListN.{length, getD, take, replicate}
+use lib.Seq.{take-at}
+use borrow.Author.Tests.{eqb-true, eq-eqb}
+use Rattle.automaton.specs.declared.Mode.{Mode}
+use Rattle.automaton.specs.Board.{Board, Formed, accepts}
+use Rattle.automaton.specs.Effect.{Effect}
+use Rattle.simulation.specs.Answers.{settled}
+use Rattle.simulation.specs.Moves.{Moves}
+use Rattle.simulation.specs.Quotient.{classOf, classCount, classMarks, classMoves, quotientOf, Image}
+use Rattle.simulation.specs.Won.{WonPair}
+use Rattle.simulation.proofs.Listed.{listed-length}
+use Rattle.simulation.proofs.Relation.{settled-least}
+use Rattle.laws.proofs.Equal.{equal-equivalence, class-won}
+use Rattle.laws.proofs.Images.{quotient-moves, moves-long}
+use Rattle.laws.proofs.Quotient.{quotient-formed, mark-is}
+use Rattle.arena.specs.Job.{Job, modeOf}
+use Rattle.quotient.specs.Calls.{Buffers, merging, quotienting, written}
+use Rattle.quotient.proofs.Accepted.{quotient-accepted, quotient-does}
+use Rattle.quotient.proofs.Bytes.{class-at}
+
+-- what was written reads back as the quotient by the table
+written-is : (B : Board) (m : Mode) (start : ℕ) (t : List ℕ) → written (B .k) (merging B m start t) ≡ quotientOf B m t
+written-is B m start t =
+    let moves = classMoves B m t in
+    let whole : length moves / 3 * 3 ≡ length moves = omega (arith, moves-long B m t) in
+    λ i. record {
+      n = classCount B m t;
+      k = B .k;
+      marks = take-at (classMarks B m t) (replicate (B .n - length (classMarks B m t)) 255) (classCount B m t) (listed-length _ 0 (classCount B m t)) i;
+      moves = (ap (λ (c : ℕ). take c (moves ++ replicate (length (B .moves) - length moves) 255)) whole ∙ take-at moves (replicate (length (B .moves) - length moves) 255) (length moves) refl) i;
+    }
+
+module _ (j : Job) (x : Buffers) (accepted : quotienting j x .answer .number ≡ 0) where
+  abbrev B : Board
+  B = j .board
+
+  abbrev m : Mode
+  m = modeOf (j .mode)
+
+  -- the settled table
+  abbrev t : List ℕ
+  t = settled B m .table
+
+  does : quotienting j x ≡ merging B m (j .start) t
+  does = let (f, s) = quotient-accepted j x .0 accepted in quotient-does j x f s
+
+  formed : Formed B
+  formed = quotient-accepted j x .0 accepted .0 .0 .0
+
+  -- the class of a state, as it was written
+  abbrev pub class : ℕ → ℕ
+  class q = getD (quotienting j x .left .classes) q 0
+
+  class-is : (q : ℕ) → q < B .n → class q ≡ classOf B m t q
+  class-is q h = ap (λ (e : Effect Buffers). getD (e .left .classes) q 0) does ∙ class-at B m t q h
+
+  pub merged-won : (q r : ℕ) → q < B .n → r < B .n → (class q ≡ class r) ↔ (WonPair B m q r × WonPair B m r q)
+  merged-won q r h l =
+      Iff·trans (λ e. sym (class-is q h) ∙ e ∙ class-is r l, λ e. class-is q h ∙ e ∙ sym (class-is r l)) (class-won B formed m t (settled-least B m) q r h l)
+
+  read-back : written (B .k) (quotienting j x) ≡ quotientOf B m t
+  read-back = ap (written (B .k)) does ∙ written-is B m (j .start) t
+
+  pub merged-formed : Formed (written (B .k) (quotienting j x))
+  merged-formed = subst Formed (sym read-back) (quotient-formed B m t (equal-equivalence B formed m t (settled-least B m)) formed)
+
+  -- a move of the board is between states
+  inside : (q a r : ℕ) → Moves B q a r → (q < B .n) × (r < B .n)
+  inside q a r (i, l, e, d, g) = let z = formed .inside i l in (omega (arith, z .0), omega (arith, z .2))
+
+  pub merged-moves : (c a d : ℕ) → Moves (written (B .k) (quotienting j x)) c a d
+      ↔ ((q : ℕ) × (r : ℕ) × Moves B q a r × (class q ≡ c) × (class r ≡ d))
+  merged-moves c a d = Iff·trans (λ k. quotient-moves B m t formed c a d .0 (subst (λ (Q : Board). Moves Q c a d) read-back k), λ k. subst (λ (Q : Board). Moves Q c a d) (sym read-back) (quotient-moves B m t formed c a d .1 k)) (there, back)
+    where
+      there : Image B m t c a d → (q : ℕ) × (r : ℕ) × Moves B q a r × (class q ≡ c) × (class r ≡ d)
+      there (q, r, k, e, f) = let z = inside q a r k in (q, r, k, class-is q (z .0) ∙ e, class-is r (z .1) ∙ f)
+
+      back : (q : ℕ) × (r : ℕ) × Moves B q a r × (class q ≡ c) × (class r ≡ d) → Image B m t c a d
+      back (q, r, k, e, f) = let z = inside q a r k in (q, r, k, sym (class-is q (z .0)) ∙ e, sym (class-is r (z .1)) ∙ f)
+
+  pub merged-marks : (c : ℕ) → c < getD (quotienting j x .answer .values) 0 0
+      → (accepts (written (B .k) (quotienting j x)) c ≡ true) ↔ ((q : ℕ) × (q < B .n) × (class q ≡ c) × (accepts B q ≡ true))
+  merged-marks c h = (λ e. there (mark-is B m t c below .0 (eqb-true _ 1 (subst (λ (Q : Board). accepts Q c ≡ true) read-back e))), λ k. subst (λ (Q : Board). accepts Q c ≡ true) (sym read-back) (eq-eqb _ 1 (mark-is B m t c below .1 (back k))))
+    where
+      below : c < classCount B m t
+      below = subst (λ (e : Effect Buffers). c < getD (e .answer .values) 0 0) does h
+
+      there : (q : ℕ) × (q < B .n) × (classOf B m t q ≡ c) × (accepts B q ≡ true) → (q : ℕ) × (q < B .n) × (class q ≡ c) × (accepts B q ≡ true)
+      there (q, l, e, a) = (q, l, class-is q l ∙ e, a)
+
+      back : (q : ℕ) × (q < B .n) × (class q ≡ c) × (accepts B q ≡ true) → (q : ℕ) × (q < B .n) × (classOf B m t q ≡ c) × (accepts B q ≡ true)
+      back (q, l, e, a) = (q, l, sym (class-is q l) ∙ e, a)
+
+  pub merged-start : getD (quotienting j x .answer .values) 2 0 ≡ class (j .start)
+  merged-start = ap (λ (e : Effect Buffers). getD (e .answer .values) 2 0) does ∙ sym (class-is (j .start) (quotient-accepted j x .0 accepted .0 .0 .1))
