@@ -2,34 +2,37 @@
 -- They speak of the calls' promises, which are functions: `checked`, `clearing`, `lifting`, `resting`, `settling`, `relating`, `replying` and
 -- `quotienting` give, for every input, what a call answers and what it leaves in the buffers lent to it. The code is proved to do that.
 -- A job is an automaton, by its board and its start, and the number of a mode.
-use mathlib.Core.Path.{_≡_, refl, sym, ap, _∙_, subst}
-use mathlib.Core.Logic.{_↔_, _⊎_}
+use mathlib.Core.Path.{_≡_, sym, ap, _∙_}
+use mathlib.Core.Logic.{_≢_, _↔_, _⊎_}
 use mathlib.Core.Bool.{true, false}
 use mathlib.Core.List.{List}
-use Prim.Native.Nat.{ℕ, suc, _+_, _*_, _≤_, _<_}
-use lib.ListN.{length, getD, take}
+use Prim.Native.Nat.{ℕ, _+_, _*_, _≤_, _<_}
+use lib.ListN.{length, getD}
+use borrow.Author.Tests.{ne-eqb}
 use Rattle.games.specs.Game.{at}
 use Rattle.games.specs.Lift.{Capped, Covers, AtRest, Least}
-use Rattle.games.proofs.Settle.{settle-least}
 use Rattle.automaton.specs.declared.Mode.the-variants.{Delayed, Fair}
 use Rattle.automaton.specs.declared.Refusal.{Refusal}
-use Rattle.automaton.specs.declared.Refusal.the-variants.{NotAtRest}
-use Rattle.automaton.specs.Answer.{accepted, valued, refused, none, fault, unless}
+use Rattle.automaton.specs.declared.Named.the-variants.{Unknown}
+use Rattle.automaton.specs.declared.Refusal.the-variants.{ModeNumber, TableLength, NotAtRest}
+use Rattle.automaton.specs.Answer.{Answer, valued, placed, refused, fault}
 use Rattle.automaton.specs.Board.{Board, Formed, accepts}
 use Rattle.automaton.specs.Check.{answerOf, automatonFault, checked}
-use Rattle.automaton.specs.Effect.{Effect}
+use Rattle.automaton.specs.Limits.{nameOf}
 use Rattle.automaton.proofs.One.{one-result}
-use Rattle.automaton.proofs.Sound.{sound}
-use Rattle.simulation.specs.Answers.{settled, relation, replies}
+use Rattle.automaton.proofs.Sound.{automaton-line, sound}
+use Rattle.simulation.specs.Answers.{replies}
 use Rattle.simulation.specs.Meaning.{LowestLeast, Brings, ahead, tallyAll, Leaves}
+use Rattle.simulation.specs.Moves.{Moves}
 use Rattle.simulation.specs.Position.{Position, spoiler, duplicator, number, Fits}
 use Rattle.simulation.specs.Rules.{ceiling}
 use Rattle.simulation.specs.Won.{Choices, Walks, Answered, WonPair}
 use Rattle.simulation.proofs.Meaning as playing
-use Rattle.simulation.proofs.Relation.{relation-rest, relation-least, settled-least}
+use Rattle.simulation.proofs.Relation.{relation-rest, relation-least}
 use Rattle.simulation.proofs.Reply.{has-move, reply-lowest-least}
 use Rattle.arena.specs.Job.{Job, modeOf, gameOf}
 use Rattle.arena.specs.Refusals.{openFault, Proper, Fitting}
+use Rattle.arena.proofs.Open.{job-line, open-line}
 use Rattle.table.specs.Answers.{ofCleared, ofLifted, ofRested, ofSettled}
 use Rattle.table.specs.Calls.{clearing, lifting, resting, settling}
 use Rattle.table.proofs.Accepted.{clear-accepted, clear-refused, lift-accepted, lift-refused, rest-accepted, settle-accepted, settle-refused}
@@ -41,14 +44,19 @@ use Rattle.relation.specs.Calls as of-relation
 use Rattle.relation.proofs.Accepted.{relation-accepted, relation-refused, reply-accepted, reply-does}
 use Rattle.relation.proofs.One.{one-related, one-replied}
 use Rattle.quotient.specs.Answers.{ofMerged}
-use Rattle.quotient.specs.Calls.{Buffers, quotienting}
+use Rattle.quotient.specs.Calls.{Buffers, buffers, quotienting, written}
 use Rattle.quotient.specs.Calls as of-quotient
 use Rattle.quotient.proofs.Accepted.{quotient-accepted, quotient-refused}
 use Rattle.quotient.proofs.One.{one-merged}
 use Rattle.demands.specs.Ends.{answering, Ends, One}
-use Rattle.demands.specs.Replies.{TakesReplies}
+use Rattle.demands.specs.Replies.{jobIn, TakesReplies}
 use Rattle.demands.proofs.Ends.{rest-refuses, reply-refuses, check-refuses, one}
-use Rattle.demands.proofs.Played.{settled-is, settled-proper, settled-reports, relation-left, takes-heeds}
+use Rattle.demands.proofs.Played.{settled-proper, settled-least, relation-left, takes-heeds}
+use Rattle.demands.specs.Order.{Call, AllOrderly, after, raised, duePositions}
+use Rattle.demands.proofs.Lifted as lifting
+use Rattle.relation.proofs.Tested.{rest-placed}
+use Rattle.relation.proofs.Effects.{relating-restless, replying-restless}
+use Rattle.quotient.proofs.Meaning as merging
 
 -- ==== Demand 1
 -- "Every call ends properly for every input. A malformed automaton, an unknown mode, a table of wrong length, or not at rest where rest is needed,
@@ -105,3 +113,154 @@ quotient-ends j x = record { accepted = quotient-accepted j x; refused = quotien
 
 pub quotient-one : (j : Job) (x : Buffers) → One ofMerged (quotienting j x)
 quotient-one j x = one ofMerged (quotienting j x) one-merged
+
+-- The refusals 1 to 9 are the same in every call on a table, and 1 to 7 those of `check`.
+pub same-refusal : (j : Job) (t : List ℕ) (r : Refusal) → openFault j (length t) ≡ fault r
+    → (clearing j t ≡ record { answer = refused r; left = t })
+    × (settling j t ≡ record { answer = refused r; left = t })
+    × ((v : ℕ) → lifting j t v ≡ record { answer = refused r; left = t })
+    × (resting j t ≡ refused r)
+    × ((out : List ℕ) → relating j t out ≡ record { answer = refused r; left = out })
+    × ((v : ℕ) → replying j t v ≡ refused r)
+    × ((classes marks moves : List ℕ) → quotienting j (buffers t classes marks moves) ≡ record { answer = refused r; left = buffers t classes marks moves })
+unfolding clearing settling lifting resting relating replying quotienting
+same-refusal j t r e = (simp e, simp e, λ v. simp e, simp e, λ out. simp e, λ v. simp e, λ classes marks moves. simp e)
+
+-- "A malformed automaton"
+pub malformed-refused : (j : Job) (t : List ℕ) (r : Refusal) → automatonFault (j .board) (j .start) ≡ fault r → (checked (j .board) (j .start) ≡ refused r) × (openFault j (length t) ≡ fault r)
+unfolding checked
+malformed-refused j t r e = (simp e, simp e)
+
+-- "an unknown mode"
+pub unknown-refused : (j : Job) (t : List ℕ) → Formed (j .board) → j .start < j .board .n → nameOf (j .mode) ≡ Unknown → openFault j (length t) ≡ fault ModeNumber
+unknown-refused j t F s e = simp (automaton-line (j .board) (j .start) .1 (F, s), e)
+
+-- "a table of wrong length"
+pub length-refused : (j : Job) (t : List ℕ) → Proper j → length t ≢ gameOf j .P → openFault j (length t) ≡ fault TableLength
+length-refused j t p n = simp (job-line j .1 p, ne-eqb (length t) (gameOf j .P) n)
+
+-- "or not at rest where rest is needed": `rest` names the lowest position that is not, and so do `relation` and `reply`
+pub restless-refused : (j : Job) (t : List ℕ) (v : ℕ) → resting j t ≡ placed v
+    → ((out : List ℕ) → relating j t out ≡ record { answer = refused (NotAtRest v); left = out })
+    × ((u : ℕ) → u < gameOf j .P → replying j t u ≡ refused (NotAtRest v))
+restless-refused j t v e =
+    let o = open-line j t .1 (rest-accepted j t .0 (ap (λ (a : Answer). a .number) e) .0) in
+    let r = rest-placed j t o v (sym e) in
+    (λ out. relating-restless j t o out (NotAtRest v) r, λ u h. replying-restless j t o u (NotAtRest v) r h)
+
+-- ==== Demand 2
+
+-- "From a settled table a pair is reported in ordinary, direct, delayed or fair mode exactly if Duplicator wins that mode's game,
+-- as the 2005 SIAM paper by Etessami, Wilke and Schuller gives it." A pair is reported by a byte 1; won is document 01's own definition.
+module _ (j : Job) (lent out : List ℕ) (settled : settling j lent .answer .number ≡ 0) (sized : of-relation.Sized (j .board) out) where
+  pub relation-told : relating j (settling j lent .left) out .answer .number ≡ 0
+  relation-told = relation-accepted j (settling j lent .left) out .1 (settled-proper j lent settled, (settled-least j lent settled .at-rest, sized))
+
+  pub reported : (q r : ℕ) → q < j .board .n → r < j .board .n
+      → (getD (relating j (settling j lent .left) out .left) (q * j .board .n + r) 0 ≡ 1) ↔ WonPair (j .board) (modeOf (j .mode)) q r
+  reported q r h l =
+      rw (relation-left j (settling j lent .left) out relation-told)
+      (relation-least (j .board) (settled-proper j lent settled .0) (modeOf (j .mode)) (settling j lent .left) q r h l (settled-least j lent settled))
+
+-- From any table at rest, whoever filled it, what is reported is won.
+pub reported-won : (j : Job) (t out : List ℕ) → relating j t out .answer .number ≡ 0 → (q r : ℕ) → q < j .board .n → r < j .board .n
+    → getD (relating j t out .left) (q * j .board .n + r) 0 ≡ 1 → WonPair (j .board) (modeOf (j .mode)) q r
+reported-won j t out told q r h l e =
+    let (p, (s, z)) = relation-accepted j t out .0 told in
+    relation-rest (j .board) (p .0) (modeOf (j .mode)) t q r h l s (sym (ap (λ (b : List ℕ). getD b (q * j .board .n + r) 0) (relation-left j t out told)) ∙ e)
+
+-- On a table at rest `reply` answers at every Duplicator's position that is not lost, with the lowest numbered state among the moves to the least entry.
+pub reply-told : (j : Job) (t : List ℕ) → resting j t ≡ valued 1 → (b q r a : ℕ) → let B = j .board in let m = modeOf (j .mode) in
+    Fits B m (duplicator b q r a) → at t (number B m (duplicator b q r a)) < ceiling B m
+    → (s : ℕ) × (replying j t (number B m (duplicator b q r a)) ≡ valued s) × LowestLeast B m t b q r a s
+reply-told j t e b q r a h l =
+    let B = j .board in
+    let m = modeOf (j .mode) in
+    let (p, s) = rest-told j t .0 e in
+    (replies B m t b q r a, reply-does j t p s b q r a h l, reply-lowest-least B (p .0) m t b q r a (has-move B (p .0) m t s b q r a h l))
+
+-- "In delayed mode, replies from any table at rest meet each obligation pending at a Spoiler's position neither lost nor idle
+-- within as many rounds as its entry says, unless Spoiler runs out of moves."
+pub obligations-met : (B : Board) (start : ℕ) (t : List ℕ) → resting (jobIn B start 2) t ≡ valued 1
+    → (σ : Choices) → TakesReplies (jobIn B start 2) t σ
+    → (q r : ℕ) → q < B .n → r < B .n → accepts B r ≡ false → at t (number B Delayed (spoiler 1 q r)) < ceiling B Delayed
+    → Brings B σ (at t (number B Delayed (spoiler 1 q r))) (spoiler 1 q r)
+obligations-met B start t e σ takes =
+    let j = jobIn B start 2 in
+    let (p, s) = rest-told j t .0 e in
+    playing.delayed-rounds B (p .0) t s σ (takes-heeds j t e σ takes)
+
+-- The count of fair mode, likewise: at most as many Spoiler's positions with Red accepting and Blue not, the present one counted,
+-- come before the first where Blue accepts, or in all if none does.
+pub fair-counted : (B : Board) (start : ℕ) (t : List ℕ) → resting (jobIn B start 3) t ≡ valued 1
+    → (σ : Choices) → TakesReplies (jobIn B start 3) t σ
+    → (q r : ℕ) → q < B .n → r < B .n → at t (number B Fair (spoiler 0 q r)) < ceiling B Fair
+    → {u : Position} (c : Walks B Fair σ (spoiler 0 q r) u) → (Leaves (Answered B) c → ⊥) → tallyAll (ahead B) c ≤ at t (number B Fair (spoiler 0 q r))
+fair-counted B start t e σ takes =
+    let j = jobIn B start 3 in
+    let (p, s) = rest-told j t .0 e in
+    playing.fair-count B (p .0) t s σ (takes-heeds j t e σ takes)
+
+-- What the stamp is set on: an accepted `quotient` merges exactly the states that are won against each other both ways,
+module _ (j : Job) (x : Buffers) (told : quotienting j x .answer .number ≡ 0) where
+  -- the class of a state, and the automaton that was written
+  abbrev class : ℕ → ℕ
+  class q = getD (quotienting j x .left .classes) q 0
+
+  abbrev reduced : Board
+  reduced = written (j .board .k) (quotienting j x)
+
+  pub merged-won : (q r : ℕ) → q < j .board .n → r < j .board .n
+      → (class q ≡ class r) ↔ (WonPair (j .board) (modeOf (j .mode)) q r × WonPair (j .board) (modeOf (j .mode)) r q)
+  merged-won = merging.merged-won j x told
+
+  -- writes a well-formed automaton, its moves strictly ascending and so each once,
+  pub merged-formed : Formed reduced
+  merged-formed = merging.merged-formed j x told
+
+  -- whose moves are exactly the images of moves,
+  pub merged-moves : (c a d : ℕ) → Moves reduced c a d ↔ ((q : ℕ) × (r : ℕ) × Moves (j .board) q a r × (class q ≡ c) × (class r ≡ d))
+  merged-moves = merging.merged-moves j x told
+
+  -- in which a class accepts exactly if some member does,
+  pub merged-marks : (c : ℕ) → c < reduced .n → (accepts reduced c ≡ true) ↔ ((q : ℕ) × (q < j .board .n) × (class q ≡ c) × (accepts (j .board) q ≡ true))
+  merged-marks = merging.merged-marks j x told
+
+  -- and names the start's class.
+  pub merged-start : getD (quotienting j x .answer .values) 2 0 ≡ class (j .start)
+  merged-start = merging.merged-start j x told
+
+-- ==== Demand 3
+-- "Start from a cleared table, one automaton and one mode, with nobody else writing the table.
+-- Lift positions one at a time, in any order, repeats and refused calls among them."
+
+-- An accepted `clear` of a lent table,
+module _ (j : Job) (lent : List ℕ) (cleared : clearing j lent .answer .number ≡ 0) where
+  -- There is a least table at rest: the one that `settle` leaves.
+  pub least-table : Least (gameOf j) (settling j lent .left)
+  least-table = lifting.settled-least j lent cleared
+
+  -- and calls of `lift` after it, of which those for other jobs or with other buffers are refused.
+  module _ (cs : List Call) (orderly : AllOrderly j (clearing j lent .left) cs) where
+    -- the table after the calls, and how many of them raised an entry
+    abbrev table : List ℕ
+    table = after j (clearing j lent .left) cs
+
+    abbrev raises : ℕ
+    raises = raised j (clearing j lent .left) cs
+
+    -- "No entry ever passes its value in the least table at rest."
+    pub never-past : (least : List ℕ) → Least (gameOf j) least → (v : ℕ) → at table v ≤ at least v
+    never-past = lifting.never-past j lent cleared cs orderly
+
+    -- "All orders that come to rest hold that table."
+    pub one-table : (least : List ℕ) → Least (gameOf j) least → AtRest (gameOf j) table → table ≡ least
+    one-table = lifting.one-table j lent cleared cs orderly
+
+    -- "Lifting every position at least once raises something, unless the table was at rest."
+    pub all-lifted : (ds : List Call) → AllOrderly j table ds → Covers (gameOf j) (duePositions ds) → AtRest (gameOf j) table ⊎ (0 < raised j table ds)
+    all-lifted = lifting.all-lifted j lent cleared cs orderly
+
+    -- "The lifts that raised an entry never number more than positions times the largest entry allowed."
+    pub raises-most : raises ≤ gameOf j .P * gameOf j .T
+    raises-most = lifting.raises-most j lent cleared cs orderly

@@ -4,12 +4,15 @@ use mathlib.Core.Logic.{_≢_}
 use mathlib.Core.List.{List, [], _∷_}
 use Prim.Native.Nat.{ℕ}
 use lib.ListN.{length}
+use Rattle.games.specs.Game.{at}
+use Rattle.automaton.specs.declared.Mode.{Mode}
 use Rattle.automaton.specs.Answer.{Answer, accepted, valued, Fault, none, fault, firstFault, unless}
 use Rattle.automaton.specs.Board.{Board}
 use Rattle.automaton.specs.Check.{automatonFault, checked}
 use Rattle.automaton.specs.First.{first}
-use Rattle.simulation.specs.Answers.{blueReply}
-use Rattle.simulation.specs.Position.{position}
+use Rattle.simulation.specs.Answers.{blueMoves, blueReply, turnFault, lostFault, moveFault, replyOn}
+use Rattle.simulation.specs.Position.{Position, position}
+use Rattle.simulation.specs.Rules.{ceiling}
 use Rattle.arena.specs.Job.{Job, modeOf, gameOf}
 use Rattle.arena.specs.Refusals.{openFault}
 use Rattle.table.specs.Calls.{entryFault, positionFault, restless, rested, resting}
@@ -33,12 +36,16 @@ rest-refuses j t =
     unless-refuses (openFault j (length t)) _
     (unless-refuses (entryFault (gameOf j) t) _ (λ n. absurd (n (rest-number (gameOf j .P) (first (restless (gameOf j) t) 0 (gameOf j .P))))))
 
+replied-refuses : (B : Board) (m : Mode) (t : List ℕ) (v : ℕ) (p : Position) → replyOn B m t v p .number ≢ 0 → Refuses tt (answering (replyOn B m t v p))
+replied-refuses B m t v p =
+    unless-refuses (firstFault (turnFault p ∷ lostFault (ceiling B m) (at t v) ∷ moveFault (blueMoves B p) ∷ [])) (valued (blueReply B m t p)) (λ n. absurd (n refl))
+
 pub reply-refuses : (j : Job) (t : List ℕ) (v : ℕ) → replying j t v .number ≢ 0 → Refuses tt (answering (replying j t v))
 unfolding replying
 reply-refuses j t v =
     unless-refuses (openFault j (length t)) _
     (unless-refuses (firstFault (entryFault (gameOf j) t ∷ positionFault (gameOf j) v ∷ restFault (gameOf j) t ∷ [])) _
-    (unless-refuses _ (valued (blueReply (j .board) (modeOf (j .mode)) t (position (j .board) (modeOf (j .mode)) v))) (λ n. absurd (n refl))))
+    (replied-refuses (j .board) (modeOf (j .mode)) t v (position (j .board) (modeOf (j .mode)) v)))
 
 pub one : {R X : Type 0} (of : R → Answer) (e : Effect X) → ((r s : R) → of r ≡ of s → r ≡ s) → One of e
 one of e same r s x y p q = (same r s (p .answers ∙ sym (q .answers)), p .leaves ∙ sym (q .leaves))

@@ -1,5 +1,5 @@
 pub mod Ends
 pub mod Played
 pub mod Order
-pub mod Demand3
+pub mod Lifted
 pub mod Demands

@@ -1,5 +1,5 @@
 -- What demand 2 needs of the calls: the bytes that an accepted `relation` leaves, and that a choice which takes the replies follows them.
-use mathlib.Core.Path.{_≡_, sym, ap, _∙_}
+use mathlib.Core.Path.{_≡_, sym, ap, subst}
 use mathlib.Core.List.{List}
 use Prim.Native.Nat.{ℕ, _<_}
 use lib.ListN.{length}
@@ -30,6 +30,9 @@ module _ (j : Job) (lent : List ℕ) (accepted : settling j lent .answer .number
 
   pub settled-proper : Proper j
   settled-proper = settle-accepted j lent .0 accepted .0
+
+  pub settled-least : Least (gameOf j) (settling j lent .left)
+  settled-least = subst (Least (gameOf j)) (sym settled-is) (settle-least (gameOf j))
 
 -- the bytes of an accepted `relation`
 pub relation-left : (j : Job) (t out : List ℕ) → relating j t out .answer .number ≡ 0 → relating j t out .left ≡ relation (j .board) (modeOf (j .mode)) t

@@ -3,10 +3,15 @@ use mathlib.Core.Path.{_≡_}
 use mathlib.Core.List.{List}
 use Prim.Native.Nat.{ℕ}
 use Rattle.automaton.specs.Answer.{valued}
+use Rattle.automaton.specs.Board.{Board}
 use Rattle.simulation.specs.Position.{duplicator, number, Fits}
 use Rattle.simulation.specs.Won.{Choices}
 use Rattle.arena.specs.Job.{Job, modeOf}
 use Rattle.relation.specs.Calls.{replying}
+
+-- an automaton and the number of a mode
+abbrev pub jobIn : Board → (start mode : ℕ) → Job
+jobIn B start mode = record { board = B; start = start; mode = mode }
 
 -- wherever the call `reply` answers with a state, σ takes it
 abbrev pub TakesReplies : Job → (table : List ℕ) → Choices → Type 0

@@ -1,5 +1,4 @@
--- Demand 3, in the tester's words: "Start from a cleared table, one automaton and one mode, with nobody else writing the table.
--- Lift positions one at a time, in any order, repeats and refused calls among them." Its four sentences, a theorem each.
+-- What calls of `lift` after an accepted `clear` do, whatever their order: the lifts of the positions that were due.
 use mathlib.Core.Path.{_≡_, sym, ap, _∙_, subst}
 use mathlib.Core.Logic.{_⊎_}
 use mathlib.Core.List.{List}
@@ -25,7 +24,7 @@ module _ (j : Job) (lent : List ℕ) (accepted : clearing j lent .answer .number
   held : Held j (clearing j lent .left)
   held = subst (Held j) (sym start) (record { proper = clear-accepted j lent .0 accepted .0; entries = cleared-entries (gameOf j); capped = cleared-capped (gameOf j) })
 
-  -- There is a least table at rest: the one that `settle` leaves.
+  -- the least table at rest is the one that `settle` leaves
   pub settled-least : Least (gameOf j) (settling j lent .left)
   settled-least =
       subst (Least (gameOf j)) (sym (ap (λ (x : Effect (List ℕ)). x .left) (settle-does j lent (clear-accepted j lent .0 accepted)))) (settling-laws.settle-least (gameOf j))
@@ -48,19 +47,15 @@ module _ (j : Job) (lent : List ℕ) (accepted : clearing j lent .answer .number
     now-held : Held j table
     now-held = held-after j cs (clearing j lent .left) held orderly
 
-    -- "No entry ever passes its value in the least table at rest."
     pub never-past : (least : List ℕ) → Least (gameOf j) least → (v : ℕ) → at table v ≤ at least v
     never-past least l v = rw table-is (lifting-laws.never-past (gameOf j) (duePositions cs) least (l .at-rest) v)
 
-    -- "All orders that come to rest hold that table."
     pub one-table : (least : List ℕ) → Least (gameOf j) least → AtRest (gameOf j) table → table ≡ least
     one-table least l r = table-is ∙ settling-laws.one-table (gameOf j) least (duePositions cs) l (subst (AtRest (gameOf j)) table-is r)
 
-    -- "Lifting every position at least once raises something, unless the table was at rest."
     pub all-lifted : (ds : List Call) → AllOrderly j table ds → Covers (gameOf j) (duePositions ds) → AtRest (gameOf j) table ⊎ (0 < raised j table ds)
     all-lifted ds o c =
         rw (after-lifts j ds table now-held o .1) (raising-laws.rest-or-raised (gameOf j) table (duePositions ds) (now-held .entries) (now-held .capped) c)
 
-    -- "The lifts that raised an entry never number more than positions times the largest entry allowed."
     pub raises-most : raises-so-far ≤ gameOf j .P * gameOf j .T
     raises-most = rw raises-are (raising-laws.raises-most (gameOf j) (duePositions cs))
