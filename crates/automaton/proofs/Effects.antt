@@ -1,7 +1,6 @@
 -- What is known of a call's effect: when it is accepted, and that a refused one leaves what it was lent.
 use mathlib.Core.Path.{_≡_, refl, ap}
 use mathlib.Core.Logic.{_≢_, _↔_}
-use Prim.Native.Nat.{ℕ}
 use native.Mathlib.Omega.{arith}
 use Rattle.automaton.specs.Answer.{Answer, Fault, none, fault, unless}
 use Rattle.automaton.specs.Effect.{Effect, does, Refuses}

@@ -1,25 +1,21 @@
 -- What demand 2 needs of the calls: the bytes that an accepted `relation` leaves, and that a choice which takes the replies follows them.
 use mathlib.Core.Path.{_≡_, sym, ap, subst}
 use mathlib.Core.List.{List}
-use Prim.Native.Nat.{ℕ, _<_}
-use lib.ListN.{length}
-use Rattle.games.specs.Game.{at}
-use Rattle.games.specs.Lift.{AtRest, Least}
+use Prim.Native.Nat.{ℕ}
+use Rattle.games.specs.Lift.{Least}
 use Rattle.games.proofs.Settle.{settle-least}
 use Rattle.automaton.specs.Answer.{valued}
 use Rattle.automaton.specs.Effect.{Effect}
 use Rattle.simulation.specs.Answers.{settled, relation, replies}
 use Rattle.simulation.specs.Meaning.{Heeds}
-use Rattle.simulation.specs.Position.{duplicator, number, Fits}
-use Rattle.simulation.specs.Rules.{ceiling}
+use Rattle.simulation.specs.Position.{number}
 use Rattle.simulation.specs.Won.{Choices}
 use Rattle.arena.specs.Job.{Job, modeOf, gameOf}
-use Rattle.arena.specs.Refusals.{Proper, Fitting}
-use Rattle.arena.proofs.Open.{open-line}
+use Rattle.arena.specs.Refusals.{Proper}
 use Rattle.table.specs.Calls.{settling, resting}
 use Rattle.table.proofs.Accepted.{settle-accepted, settle-does}
 use Rattle.table.proofs.AtRest.{rest-told}
-use Rattle.relation.specs.Calls.{relating, replying, Sized}
+use Rattle.relation.specs.Calls.{relating}
 use Rattle.relation.proofs.Accepted.{relation-accepted, relation-does, reply-does}
 use Rattle.demands.specs.Replies.{TakesReplies}
 

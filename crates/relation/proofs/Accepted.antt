@@ -1,12 +1,11 @@
 -- When `relation` and `reply` are accepted, and that a refused `relation` leaves the bytes as they were.
 use mathlib.Core.Path.{_≡_, refl, sym, ap, _∙_, subst}
 use mathlib.Core.Logic.{_≢_, _↔_, Iff·trans}
-use mathlib.Core.Bool.{true, false}
 use mathlib.Core.List.{List, [], _∷_}
 use Prim.Native.Nat.{ℕ, _*_, _-_, _≤_, _<_}
 use native.Mathlib.Decide.{decLt}
 use native.Mathlib.Omega.{arith}
-use lib.Dec.{eqb, ltb}
+use lib.Dec.{eqb}
 use lib.ListN.{length}
 use borrow.Author.Tests.{eqb-true, eq-eqb, not-false, ltb-false, le-ltb, leb-false, lt-leb}
 use Rattle.games.specs.Game.{Game, at}
@@ -14,17 +13,17 @@ use Rattle.games.specs.Lift.{Rest, AtRest}
 use Rattle.automaton.specs.declared.Mode.{Mode}
 use Rattle.automaton.specs.declared.Refusal.the-variants.{NotAtRest, LostPosition, OutputLength}
 use Rattle.automaton.specs.Answer.{Answer, valued, none, firstFault}
-use Rattle.automaton.specs.Board.{Board, Formed}
+use Rattle.automaton.specs.Board.{Board}
 use Rattle.automaton.specs.Effect.{Refuses}
 use Rattle.automaton.proofs.Effects.{unless-also, always, does-number, does-refuse}
 use Rattle.automaton.proofs.Fault.{Line, found, fails-line, failsAt-line, _then_, end, table-line, unless-number}
 use Rattle.simulation.specs.Answers.{relation, related, replies, turnFault, lostFault, moveFault, blueMoves, blueReply}
 use Rattle.simulation.specs.Position.{duplicator, pairs, number, duplicatorAt, position, Fits}
-use Rattle.simulation.specs.Rules.{ceiling, game}
+use Rattle.simulation.specs.Rules.{ceiling}
 use Rattle.simulation.proofs.Position.{spoilers-turn, duplicators-turn, number-lt, number-position, position-fits}
 use Rattle.simulation.proofs.Reply.{reply-answers}
 use Rattle.arena.specs.Job.{Job, modeOf, gameOf}
-use Rattle.arena.specs.Refusals.{openFault, Proper, Fitting}
+use Rattle.arena.specs.Refusals.{openFault, Proper}
 use Rattle.arena.proofs.Open.{open-line}
 use Rattle.table.specs.Calls.{entryFault, positionFault, restless}
 use Rattle.table.proofs.Accepted.{entry-line, position-line}

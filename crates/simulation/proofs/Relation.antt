@@ -5,11 +5,10 @@ use mathlib.Core.List.{List}
 use Prim.Native.Nat.{ℕ, _+_, _*_, _≤_, _<_}
 use native.Mathlib.Nat.{zero-add}
 use lib.Arith.{digits-lt, digits-div, digits-mod}
-use lib.ListN.{length, getD, length-map}
+use lib.ListN.{length, getD}
 use borrow.Author.Tests.{lt-ltb, ltb-true}
 use Rattle.games.specs.Game.{at}
 use Rattle.games.specs.Lift.{bound, AtRest, Least}
-use Rattle.games.specs.Settle.{ascending}
 use Rattle.games.proofs.Settle.{settle-rest, settle-least, settle-raises}
 use Rattle.games.proofs.Replies.{below-won}
 use Rattle.games.proofs.Verdict.{verdict}

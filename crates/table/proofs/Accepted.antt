@@ -1,5 +1,5 @@
 -- When each call is accepted, and that a refused one leaves the table as it was.
-use mathlib.Core.Path.{_≡_, refl, ap, _∙_}
+use mathlib.Core.Path.{_≡_, refl, _∙_}
 use mathlib.Core.Logic.{_≢_, _↔_, Iff·trans}
 use mathlib.Core.Bool.{Bool, true, false, cond}
 use mathlib.Core.List.{List, [], _∷_}
@@ -13,8 +13,8 @@ use Rattle.games.specs.Game.{Game, at}
 use Rattle.games.specs.Lift.{lift, rise, cleared, Capped}
 use Rattle.games.specs.Settle.{settle}
 use Rattle.automaton.specs.declared.Refusal.the-variants.{AboveCeiling, PositionNumber}
-use Rattle.automaton.specs.Answer.{Answer, accepted, valued, placed, refused, Fault, unless, none, fault, firstFault}
-use Rattle.automaton.proofs.Fault.{refusal-numbered, Line, fails-line, failsAt-line, _then_, end, table-line, unless-number, found}
+use Rattle.automaton.specs.Answer.{accepted, valued, placed, refused, firstFault}
+use Rattle.automaton.proofs.Fault.{Line, fails-line, failsAt-line, _then_, end, table-line, unless-number}
 use Rattle.arena.specs.Job.{Job, gameOf}
 use Rattle.arena.specs.Refusals.{openFault, Fitting}
 use Rattle.automaton.specs.Effect.{Refuses}

@@ -10,8 +10,8 @@ use Rattle.automaton.proofs.Effects.{both}
 use Rattle.simulation.specs.Answers.{relation, related}
 use Rattle.arena.specs.declared.Arena.{Arena}
 use Rattle.arena.specs.declared.Opened.the-variants.{Open}
-use Rattle.arena.specs.Arena.{boardIn, opened, Ready}
-use Rattle.arena.specs.Job.{Job, jobOf, modeOf}
+use Rattle.arena.specs.Arena.{boardIn, opened}
+use Rattle.arena.specs.Job.{Job, jobOf}
 use Rattle.arena.specs.Refusals.{openFault}
 use Rattle.arena.specs.Seats.{Seated}
 use Rattle.arena.proofs.Open.{open-is, open-fault, open-ready}

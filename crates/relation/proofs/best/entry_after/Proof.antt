@@ -1,5 +1,5 @@
 -- `relation::best::entry_after` meets its contract: it reads the entry of Spoiler's position that Blue's move leads to.
-use mathlib.Core.Path.{_≡_, ap}
+use mathlib.Core.Path.{ap}
 use Prim.Native.Nat.{ℕ, _+_, _*_, _≤_, _<_}
 use native.Mathlib.Omega.{arith}
 use borrow.Author.Needs.{needs}

@@ -1,5 +1,4 @@
 -- `relation::best::improve` meets its contract: by whether there was a move, and whether the new entry is smaller.
-use mathlib.Core.Path.{_≡_}
 use borrow.Author.Needs.{needs}
 use borrow.Author.Tests.{lt-ltb, le-ltb}
 use Rattle.relation.proofs.best.improve.Statement.{statement}

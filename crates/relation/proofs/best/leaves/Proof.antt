@@ -1,11 +1,10 @@
 -- `relation::best::leaves` meets its contract: the letter is read only where the state is r.
 use mathlib.Core.Path.{_≡_, sym, ap, _∙_}
-use native.Mathlib.Omega.{arith}
 use borrow.Author.Needs.{needs}
 use borrow.Author.Tests.{eq-eqb, ne-eqb}
 use lib.Dec.{eqb}
 use Prim.Native.Nat.{ℕ}
-use Rattle.automaton.specs.Board.{from, letter}
+use Rattle.automaton.specs.Board.{from}
 use Rattle.relation.proofs.best.leaves.Statement.{statement}
 use Rattle.relation.proofs.best.leaves.Tie as tie
 

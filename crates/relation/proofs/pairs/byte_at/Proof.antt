@@ -1,5 +1,5 @@
 -- `relation::pairs::byte_at` meets its contract: pair i begins with the bit that its two states owe.
-use mathlib.Core.Path.{_≡_, sym, ap, _∙_}
+use mathlib.Core.Path.{_≡_, sym, ap}
 use Prim.Native.Nat.{ℕ, zero, suc, _+_, _*_, _/_, _%_, _≤_, _<_}
 use native.Mathlib.Nat.{div-lt-iff-lt-mul, mod-lt, div-add-mod'}
 use native.Mathlib.Omega.{arith}
@@ -8,7 +8,6 @@ use borrow.Author.Tests.{lt-ltb, le-ltb}
 use lib.ListN.{length}
 use Rattle.games.specs.Game.{at}
 use Rattle.automaton.specs.Board.{accepts}
-use Rattle.simulation.specs.Answers.{byteAt}
 use Rattle.simulation.specs.Position.{layers, pair}
 use Rattle.simulation.specs.Rules.{bit, ceiling, owed}
 use Rattle.simulation.proofs.Turns.{owed-lt}
