@@ -8,7 +8,6 @@ use borrow.Author.Tests.{eq-eqb, ne-eqb}
 use lib.ListN.{length}
 use Rattle.automaton.specs.declared.Refusal.the-variants.{OutputLength}
 use Rattle.automaton.specs.Answer.{refused, Fault, none, fault}
-use Rattle.automaton.specs.Effect.{Effect, does}
 use Rattle.automaton.specs.Board.{Board}
 use Rattle.simulation.specs.Answers.{settled}
 use Rattle.arena.specs.declared.Arena.{Arena}
@@ -17,7 +16,7 @@ use Rattle.arena.specs.Arena.{boardIn, opened}
 use Rattle.arena.specs.Job.{Job, modeOf}
 use Rattle.arena.proofs.Open.{open-is}
 use Rattle.arena.proofs.Opening.{open-effect}
-use Rattle.quotient.specs.Calls.{Buffers, merging, outputFault, quotienting}
+use Rattle.quotient.specs.Calls.{Buffers, merging, mergingUnless, outputFault, quotienting}
 
 -- ---- refusal 16
 
@@ -41,14 +40,10 @@ module _ (j : Job) (x : Buffers) (g : Arena) (o : opened j (length (x .table)) �
   pub states-are : g .states ≡ j .board .n
   states-are = ap (λ (h : Arena). h .states) (sym (open-is j (x .table) g o .1))
 
-  -- what the call does, by what is at fault with the outputs
-  abbrev doing : Fault → Effect Buffers
-  doing f = does f x (merging (j .board) (modeOf (j .mode)) (j .start) (settled (j .board) (modeOf (j .mode)) .table))
-
   -- the refusals 1 to 9 do not apply
-  by-fault : (f : Fault) → outputFault (j .board) x ≡ f → quotienting j x ≡ doing f
+  by-fault : (f : Fault) → outputFault (j .board) x ≡ f → quotienting j x ≡ mergingUnless f j x
   unfolding quotienting
-  by-fault f e = open-effect j (x .table) x (doing (outputFault (j .board) x)) g o ∙ ap doing e
+  by-fault f e = open-effect j (x .table) x (mergingUnless (outputFault (j .board) x) j x) g o ∙ ap (λ (k : Fault). mergingUnless k j x) e
 
   misfit : outputFault (j .board) x ≡ fault OutputLength → quotienting j x ≡ record { answer = refused OutputLength; left = x }
   misfit e = by-fault (fault OutputLength) e

@@ -45,10 +45,12 @@ merging B m start t = record {
   left = buffers t (classBytes B m t) (markBytes B m t) (moveBytes B m t);
 }
 
+-- unless an output's length is at fault
+abbrev pub mergingUnless : Fault → Job → (lent : Buffers) → Effect Buffers
+mergingUnless f j x = let m = modeOf (j .mode) in does f x (merging (j .board) m (j .start) (settled (j .board) m .table))
+
 unfoldable pub quotienting : Job → (lent : Buffers) → Effect Buffers
-quotienting j x =
-    let m = modeOf (j .mode) in
-    opening j (length (x .table)) x (does (outputFault (j .board) x) x (merging (j .board) m (j .start) (settled (j .board) m .table)))
+quotienting j x = opening j (length (x .table)) x (mergingUnless (outputFault (j .board) x) j x)
 
 -- ---- reading it back
 
