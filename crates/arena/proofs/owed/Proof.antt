@@ -18,8 +18,9 @@ enum-told-3 c = search needs
 returns : tie.Need-returns
 returns c =
     let at = c .before .before .before .before .args in
+    let red : at .red ≡ true = c .before .if1 .taken in
     let blue : at .blue ≡ false = sym (Bool·not-not (at .blue)) ∙ ap not (c .if2 .taken) in
-    simp (c .before .before .enum-told3 .given .1, c .before .if1 .taken, blue)
+    simp (c .before .before .enum-told3 .given .1, red, blue)
 
 enum-told-4 : tie.Need-enum-told-4
 enum-told-4 c = search needs
