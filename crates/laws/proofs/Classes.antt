@@ -10,8 +10,8 @@ use lib.Dec.{eqb}
 use borrow.Author.Tests.{eq-eqb, eqb-true}
 use Rattle.games.specs.Play.{count}
 use Rattle.games.proofs.Count.{count-less, count-most, count-onto}
-use Rattle.automaton.specs.First.{first}
 use Rattle.automaton.proofs.First.{first-lowest}
+use Rattle.simulation.specs.Quotient.{chiefBy, leads, classBy}
 use Rattle.simulation.specs.Rules.{bit}
 use Rattle.simulation.proofs.Listed.{bit-most, bit-one}
 
@@ -22,109 +22,97 @@ pub record Equivalence (n : ℕ) (e : ℕ → ℕ → Bool) : Type 0 where
   pub on : (q r s : ℕ) → q < n → r < n → s < n → e q r ≡ true → e r s ≡ true → e q s ≡ true
 
 module _ (e : ℕ → ℕ → Bool) where
-  -- the least number that equals q, which is q itself if none below it does
-  abbrev pub leader : ℕ → ℕ
-  leader q = first (e q) 0 q
-
-  -- 1 for the least member of a class
-  abbrev pub leads : ℕ → ℕ
-  leads q = bit (eqb (leader q) q)
-
-  -- a class's number is that of the least members below its own
-  abbrev pub classed : ℕ → ℕ
-  classed q = count leads (leader q)
-
   -- ---- of any e
 
   -- the mark of a least member is 0 or 1
-  leads-most : (u : ℕ) → leads u ≤ 1
-  leads-most u = bit-most (eqb (leader u) u)
+  leads-most : (u : ℕ) → leads e u ≤ 1
+  leads-most u = bit-most (eqb (chiefBy e u) u)
 
   -- and 1 exactly for one that leads itself
-  leads-is : (u : ℕ) → (leads u ≡ 1) ↔ (leader u ≡ u)
-  leads-is u = (λ d. eqb-true (leader u) u (bit-one (eqb (leader u) u) .0 d), λ d. ap bit (eq-eqb (leader u) u d))
+  leads-is : (u : ℕ) → (leads e u ≡ 1) ↔ (chiefBy e u ≡ u)
+  leads-is u = (λ d. eqb-true (chiefBy e u) u (bit-one (eqb (chiefBy e u) u) .0 d), λ d. ap bit (eq-eqb (chiefBy e u) u d))
 
-  -- a leader is not above its members
-  pub leader-most : (q : ℕ) → leader q ≤ q
-  leader-most q = omega (arith, first-lowest (e q) 0 q .most)
+  -- a chief is not above its members
+  pub chiefBy-most : (q : ℕ) → chiefBy e q ≤ q
+  chiefBy-most q = omega (arith, first-lowest (e q) 0 q .most)
 
   -- nor above any number that equals one of them
-  pub leader-least : (q u : ℕ) → e q u ≡ true → leader q ≤ u
-  leader-least q u x = go (decLt u (leader q))
+  pub chiefBy-least : (q u : ℕ) → e q u ≡ true → chiefBy e q ≤ u
+  chiefBy-least q u x = go (decLt u (chiefBy e q))
     where
-      go : Dec (u < leader q) → leader q ≤ u
+      go : Dec (u < chiefBy e q) → chiefBy e q ≤ u
       go (yes l) = absurd (true≢false (sym x ∙ first-lowest (e q) 0 q .before u (omega arith) l))
       go (no l) = omega arith
 
   -- a class's number is not above its members
-  pub classed-most : (q : ℕ) → classed q ≤ q
-  classed-most q = le-trans (count-most leads leads-most (leader q)) (leader-most q)
+  pub classBy-most : (q : ℕ) → classBy e q ≤ q
+  classBy-most q = le-trans (count-most (leads e) leads-most (chiefBy e q)) (chiefBy-most q)
 
   -- there are no more classes than numbers
-  pub classes-few : (n : ℕ) → count leads n ≤ n
-  classes-few n = count-most leads leads-most n
+  pub classes-few : (n : ℕ) → count (leads e) n ≤ n
+  classes-few n = count-most (leads e) leads-most n
 
   -- and every number below their count is a class's, that of its least member
-  pub classed-onto : (n c : ℕ) → c < count leads n → (q : ℕ) × (q < n) × (leader q ≡ q) × (classed q ≡ c)
-  classed-onto n c l =
-      let (u, i, x, y) = count-onto leads leads-most n c l in
+  pub classBy-onto : (n c : ℕ) → c < count (leads e) n → (q : ℕ) × (q < n) × (chiefBy e q ≡ q) × (classBy e q ≡ c)
+  classBy-onto n c l =
+      let (u, i, x, y) = count-onto (leads e) leads-most n c l in
       let d = leads-is u .0 x in
-      (u, i, d, ap (count leads) d ∙ y)
+      (u, i, d, ap (count (leads e)) d ∙ y)
 
   -- ---- of an equivalence
 
   module _ (n : ℕ) (E : Equivalence n e) where
-    -- a leader is one of the numbers below n
-    leader-lt : (q : ℕ) → q < n → leader q < n
-    leader-lt q h = omega (arith, leader-most q)
+    -- a chief is one of the numbers below n
+    chiefBy-lt : (q : ℕ) → q < n → chiefBy e q < n
+    chiefBy-lt q h = omega (arith, chiefBy-most q)
 
     -- and a member of the class that it leads
-    pub leader-equal : (q : ℕ) → q < n → e q (leader q) ≡ true
-    leader-equal q h = go (decLt (leader q) q)
+    pub chiefBy-equal : (q : ℕ) → q < n → e q (chiefBy e q) ≡ true
+    chiefBy-equal q h = go (decLt (chiefBy e q) q)
       where
-        go : Dec (leader q < q) → e q (leader q) ≡ true
+        go : Dec (chiefBy e q < q) → e q (chiefBy e q) ≡ true
         go (yes l) = first-lowest (e q) 0 q .here (omega arith)
-        go (no l) = let d : leader q ≡ q = omega (arith, leader-most q) in subst (λ (u : ℕ). e q u ≡ true) (sym d) (E .same q h)
+        go (no l) = let d : chiefBy e q ≡ q = omega (arith, chiefBy-most q) in subst (λ (u : ℕ). e q u ≡ true) (sym d) (E .same q h)
 
-    -- of two equal numbers the first's leader is not above the second's
-    leader-down : (q r : ℕ) → q < n → r < n → e q r ≡ true → leader q ≤ leader r
-    leader-down q r h l x = leader-least q (leader r) (E .on q r (leader r) h l (leader-lt r l) x (leader-equal r l))
+    -- of two equal numbers the first's chief is not above the second's
+    chiefBy-down : (q r : ℕ) → q < n → r < n → e q r ≡ true → chiefBy e q ≤ chiefBy e r
+    chiefBy-down q r h l x = chiefBy-least q (chiefBy e r) (E .on q r (chiefBy e r) h l (chiefBy-lt r l) x (chiefBy-equal r l))
 
-    -- equal numbers have one leader
-    leader-same : (q r : ℕ) → q < n → r < n → e q r ≡ true → leader q ≡ leader r
-    leader-same q r h l x = le-antisymm (leader-down q r h l x) (leader-down r q l h (E .back q r h l x))
+    -- equal numbers have one chief
+    chiefBy-same : (q r : ℕ) → q < n → r < n → e q r ≡ true → chiefBy e q ≡ chiefBy e r
+    chiefBy-same q r h l x = le-antisymm (chiefBy-down q r h l x) (chiefBy-down r q l h (E .back q r h l x))
 
-    -- a leader leads itself
-    leader-leads : (q : ℕ) → q < n → leads (leader q) ≡ 1
-    leader-leads q h = leads-is (leader q) .1 (sym (leader-same q (leader q) h (leader-lt q h) (leader-equal q h)))
+    -- a chief leads itself
+    chiefBy-leads : (q : ℕ) → q < n → leads e (chiefBy e q) ≡ 1
+    chiefBy-leads q h = leads-is (chiefBy e q) .1 (sym (chiefBy-same q (chiefBy e q) h (chiefBy-lt q h) (chiefBy-equal q h)))
 
-    -- a class with a lower leader has a lower number
-    classed-up : (q r : ℕ) → q < n → leader q < leader r → classed q < classed r
-    classed-up q r h x = count-less leads (leader q) (leader r) x (leader-leads q h)
+    -- a class with a lower chief has a lower number
+    classBy-up : (q r : ℕ) → q < n → chiefBy e q < chiefBy e r → classBy e q < classBy e r
+    classBy-up q r h x = count-less (leads e) (chiefBy e q) (chiefBy e r) x (chiefBy-leads q h)
 
     -- and no other class: the numbers are in the order of the least members
-    pub classed-order : (q r : ℕ) → q < n → r < n → (leader q < leader r) ↔ (classed q < classed r)
-    classed-order q r h l = (classed-up q r h, λ x. go x (decLt (leader q) (leader r)) (decLt (leader r) (leader q)))
+    pub classBy-order : (q r : ℕ) → q < n → r < n → (chiefBy e q < chiefBy e r) ↔ (classBy e q < classBy e r)
+    classBy-order q r h l = (classBy-up q r h, λ x. go x (decLt (chiefBy e q) (chiefBy e r)) (decLt (chiefBy e r) (chiefBy e q)))
       where
-        go : classed q < classed r → Dec (leader q < leader r) → Dec (leader r < leader q) → leader q < leader r
+        go : classBy e q < classBy e r → Dec (chiefBy e q < chiefBy e r) → Dec (chiefBy e r < chiefBy e q) → chiefBy e q < chiefBy e r
         go x (yes y) z = y
-        go x (no y) (yes z) = absurd (omega (arith, classed-up r q l z))
-        go x (no y) (no z) = let d : leader q ≡ leader r = omega arith in absurd (omega (arith, ap (count leads) d))
+        go x (no y) (yes z) = absurd (omega (arith, classBy-up r q l z))
+        go x (no y) (no z) = let d : chiefBy e q ≡ chiefBy e r = omega arith in absurd (omega (arith, ap (count (leads e)) d))
 
     -- one class exactly if equal
-    pub classed-same : (q r : ℕ) → q < n → r < n → (classed q ≡ classed r) ↔ (e q r ≡ true)
-    classed-same q r h l = (λ x. go x (decLt (leader q) (leader r)) (decLt (leader r) (leader q)), λ x. ap (count leads) (leader-same q r h l x))
+    pub classBy-same : (q r : ℕ) → q < n → r < n → (classBy e q ≡ classBy e r) ↔ (e q r ≡ true)
+    classBy-same q r h l = (λ x. go x (decLt (chiefBy e q) (chiefBy e r)) (decLt (chiefBy e r) (chiefBy e q)), λ x. ap (count (leads e)) (chiefBy-same q r h l x))
       where
-        join : leader q ≡ leader r → e q r ≡ true
+        join : chiefBy e q ≡ chiefBy e r → e q r ≡ true
         join d =
-            E .on q (leader q) r h (leader-lt q h) l (leader-equal q h)
-            (subst (λ (u : ℕ). e u r ≡ true) (sym d) (E .back r (leader r) l (leader-lt r l) (leader-equal r l)))
+            E .on q (chiefBy e q) r h (chiefBy-lt q h) l (chiefBy-equal q h)
+            (subst (λ (u : ℕ). e u r ≡ true) (sym d) (E .back r (chiefBy e r) l (chiefBy-lt r l) (chiefBy-equal r l)))
 
-        go : classed q ≡ classed r → Dec (leader q < leader r) → Dec (leader r < leader q) → e q r ≡ true
-        go x (yes y) z = absurd (omega (arith, classed-up q r h y))
-        go x (no y) (yes z) = absurd (omega (arith, classed-up r q l z))
+        go : classBy e q ≡ classBy e r → Dec (chiefBy e q < chiefBy e r) → Dec (chiefBy e r < chiefBy e q) → e q r ≡ true
+        go x (yes y) z = absurd (omega (arith, classBy-up q r h y))
+        go x (no y) (yes z) = absurd (omega (arith, classBy-up r q l z))
         go x (no y) (no z) = join (omega arith)
 
     -- every class's number is below the count of classes
-    pub classed-lt : (q : ℕ) → q < n → classed q < count leads n
-    classed-lt q h = count-less leads (leader q) n (leader-lt q h) (leader-leads q h)
+    pub classBy-lt : (q : ℕ) → q < n → classBy e q < count (leads e) n
+    classBy-lt q h = count-less (leads e) (chiefBy e q) n (chiefBy-lt q h) (chiefBy-leads q h)

@@ -18,7 +18,7 @@ use Rattle.automaton.proofs.First.{some-is}
 use Rattle.simulation.specs.Moves.{Moves}
 use Rattle.simulation.specs.Rules.{bit}
 use Rattle.simulation.specs.Quotient.{equal, classOf, tripleOf, imageOf, reached, classMoves, quotientOf, Image}
-use Rattle.laws.proofs.Classes.{classed-most}
+use Rattle.laws.proofs.Classes.{classBy-most}
 use Rattle.laws.proofs.Triples.{having, having-less, Stands, listed-long, listed-at, listed-of}
 
 -- ---- the triple of a number
@@ -48,7 +48,7 @@ triples-rise n k x y p o h = go (rises n x y p h)
 module _ (B : Board) (m : Mode) (t : List ℕ) where
   -- a class's number is below n
   pub class-most : (q : ℕ) → q < B .n → classOf B m t q < B .n
-  class-most q h = omega (arith, classed-most (equal B m t) q)
+  class-most q h = omega (arith, classBy-most (equal B m t) q)
 
   -- ---- their number and order
 

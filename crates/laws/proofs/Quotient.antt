@@ -7,16 +7,15 @@ use Prim.Native.Nat.{ℕ, _≤_, _<_}
 use native.Mathlib.Nat.{le-trans, zero-add}
 use native.Mathlib.Omega.{arith}
 use lib.Dec.{eqb}
-use lib.ListN.{length, getD, length-map}
+use lib.ListN.{length, getD}
 use borrow.Author.Tests.{eq-eqb, eqb-true}
-use Rattle.games.specs.Settle.{ascending}
 use Rattle.automaton.specs.declared.Mode.{Mode}
 use Rattle.automaton.specs.Board.{Board, Formed, accepts, from, letter, to}
 use Rattle.automaton.specs.First.{some}
 use Rattle.automaton.proofs.First.{some-is}
 use Rattle.simulation.specs.Quotient.{equal, chief, classOf, classCount, markOf, classMarks, classMoves, quotientOf, Image}
-use Rattle.simulation.proofs.Listed.{map-at, length-ascending, bit-most, bit-one}
-use Rattle.laws.proofs.Classes.{Equivalence, leader-equal, leader-least, classes-few, classed-same, classed-order, classed-lt, classed-onto}
+use Rattle.simulation.proofs.Listed.{map-at, listed-length, bit-most, bit-one}
+use Rattle.laws.proofs.Classes.{Equivalence, chiefBy-equal, chiefBy-least, classes-few, classBy-same, classBy-order, classBy-lt, classBy-onto}
 use Rattle.laws.proofs.Images.{moves-long, moves-ascend, quotient-moves}
 
 -- ---- of any table
@@ -28,11 +27,11 @@ module _ (B : Board) (m : Mode) (t : List ℕ) where
 
   -- every number below the count of classes is a class's, that of its chief
   pub class-onto : (c : ℕ) → c < classCount B m t → (q : ℕ) × (q < B .n) × (chief B m t q ≡ q) × (classOf B m t q ≡ c)
-  class-onto = classed-onto (equal B m t) (B .n)
+  class-onto = classBy-onto (equal B m t) (B .n)
 
   -- no state that equals q is below its chief
   pub chief-least : (q r : ℕ) → equal B m t q r ≡ true → chief B m t q ≤ r
-  chief-least = leader-least (equal B m t)
+  chief-least = chiefBy-least (equal B m t)
 
   -- q is a member of class c that accepts
   abbrev marking : (c q : ℕ) → Bool
@@ -44,7 +43,7 @@ module _ (B : Board) (m : Mode) (t : List ℕ) where
 
   -- "one a class"
   marks-long : length (classMarks B m t) ≡ classCount B m t
-  marks-long = length-map (ascending 0 (classCount B m t)) (markOf B m t) ∙ length-ascending 0 (classCount B m t)
+  marks-long = listed-length (markOf B m t) 0 (classCount B m t)
 
   -- "1 if some member accepts"
   pub mark-is : (c : ℕ) → c < classCount B m t → (getD (classMarks B m t) c 0 ≡ 1) ↔ ((q : ℕ) × (q < B .n) × (classOf B m t q ≡ c) × (accepts B q ≡ true))
@@ -65,19 +64,19 @@ module _ (B : Board) (m : Mode) (t : List ℕ) where
 module _ (B : Board) (m : Mode) (t : List ℕ) (E : Equivalence (B .n) (equal B m t)) where
   -- one class exactly if equal
   pub class-same : (q r : ℕ) → q < B .n → r < B .n → (classOf B m t q ≡ classOf B m t r) ↔ (equal B m t q r ≡ true)
-  class-same = classed-same (equal B m t) (B .n) E
+  class-same = classBy-same (equal B m t) (B .n) E
 
   -- "Classes are numbered 0, 1 and on": each is below their count
   pub class-below : (q : ℕ) → q < B .n → classOf B m t q < classCount B m t
-  class-below = classed-lt (equal B m t) (B .n) E
+  class-below = classBy-lt (equal B m t) (B .n) E
 
   -- "in the order of their least members"
   pub class-order : (q r : ℕ) → q < B .n → r < B .n → (chief B m t q < chief B m t r) ↔ (classOf B m t q < classOf B m t r)
-  class-order = classed-order (equal B m t) (B .n) E
+  class-order = classBy-order (equal B m t) (B .n) E
 
   -- the chief of a class is a member of it
   pub chief-equal : (q : ℕ) → q < B .n → equal B m t q (chief B m t q) ≡ true
-  chief-equal = leader-equal (equal B m t) (B .n) E
+  chief-equal = chiefBy-equal (equal B m t) (B .n) E
 
   -- an image stays inside the quotient
   image-inside : Formed B → {c a d : ℕ} → Image B m t c a d → (c < classCount B m t) × (a < B .k) × (d < classCount B m t)

@@ -23,27 +23,34 @@ abbrev pub inTurn : (ℕ → List ℕ) → (c : ℕ) → List ℕ
 inTurn f zero = []
 inTurn f (suc c) = inTurn f c ++ f c
 
+-- ---- "Classes are numbered 0, 1 and on in the order of their least members": by a test of which numbers are equal
+
+module _ (equal : ℕ → ℕ → Bool) where
+  -- the least number that equals q, which is q itself if none below it does
+  abbrev pub chiefBy : ℕ → ℕ
+  chiefBy q = first (equal q) 0 q
+
+  -- 1 for the least member of a class
+  abbrev pub leads : ℕ → ℕ
+  leads q = bit (eqb (chiefBy q) q)
+
+  -- the number of a class is how many classes have their least members below its own
+  abbrev pub classBy : ℕ → ℕ
+  classBy q = count leads (chiefBy q)
+
 module _ (B : Board) (m : Mode) (t : List ℕ) where
   -- "Two states are equal if each is related to the other (001, definition 12)."
   abbrev pub equal : (q r : ℕ) → Bool
   equal q r = below B m t q r && below B m t r q
 
-  -- ---- "Classes are numbered 0, 1 and on in the order of their least members."
-
-  -- the least state that equals q, which is q itself if none below it does
   abbrev pub chief : ℕ → ℕ
-  chief q = first (equal q) 0 q
+  chief = chiefBy equal
 
-  -- 1 for the least member of a class
-  abbrev pub leads : ℕ → ℕ
-  leads q = bit (eqb (chief q) q)
-
-  -- a class's number is that of the least members below its own
   abbrev pub classOf : ℕ → ℕ
-  classOf q = count leads (chief q)
+  classOf = classBy equal
 
   abbrev pub classCount : ℕ
-  classCount = count leads (B .n)
+  classCount = count (leads equal) (B .n)
 
   -- "the class of each state (n bytes)"
   abbrev pub classBytes : List ℕ

@@ -26,8 +26,8 @@ use Rattle.quotient.proofs.classes.number.Tie as tie
 abbrev Inv-loop : tie.InvT-loop
 Inv-loop g marks table classes₀ states earlier₀ count₀ q₀ classes earlier number q =
     (q ≤ g .states) × (length classes ≡ length classes₀) × (length earlier ≡ 64)
-    × (number ≡ count (leads (bare g marks) (g .mode) table) q)
-    × ((k : ℕ) → k < q → getD earlier k 0 ≡ count (leads (bare g marks) (g .mode) table) k)
+    × (number ≡ count (leads (equal (bare g marks) (g .mode) table)) q)
+    × ((k : ℕ) → k < q → getD earlier k 0 ≡ count (leads (equal (bare g marks) (g .mode) table)) k)
     × (classes ≡ map (classOf (bare g marks) (g .mode) table) (ascending 0 q) ++ drop q classes₀)
 
 abbrev μ-loop : tie.MeasureT-loop
@@ -44,7 +44,7 @@ abbrev least : tie.At-loop Inv-loop μ-loop → ℕ → ℕ
 least l = chief (board l) (begun l .args .g .mode) (begun l .args .table .now)
 
 abbrev leading : tie.At-loop Inv-loop μ-loop → ℕ → ℕ
-leading l = leads (board l) (begun l .args .g .mode) (begun l .args .table .now)
+leading l = leads (equal (board l) (begun l .args .g .mode) (begun l .args .table .now))
 
 abbrev class : tie.At-loop Inv-loop μ-loop → ℕ → ℕ
 class l = classOf (board l) (begun l .args .g .mode) (begun l .args .table .now)
