@@ -1,9 +1,9 @@
 -- The laws of a table of refusals: when a line finds no fault, when none does, and what the answer's number tells of it.
-use mathlib.Core.Path.{_≡_, refl, sym}
+use mathlib.Core.Path.{_≡_, refl, sym, ap}
 use mathlib.Core.Logic.{_↔_, Iff·trans}
 use mathlib.Core.Bool.{Bool, true, false, true≢false}
 use mathlib.Core.List.{List, [], _∷_, _++_}
-use Prim.Native.Nat.{ℕ, _<_}
+use Prim.Native.Nat.{ℕ, _≤_, _<_}
 use native.Mathlib.Omega.{arith}
 use lib.Dec.{ltb}
 use borrow.Author.Tests.{ltb-false, le-ltb}
@@ -89,3 +89,36 @@ faults-stopped (fault x ∷ fs) gs r e = e
 pub unless-number : (f : Fault) (a : Answer) → a .number ≡ 0 → (unless f a .number ≡ 0) ↔ (f ≡ none)
 unless-number none a z = (λ e. refl, λ e. z)
 unless-number (fault x) a z = (λ e. absurd (omega (arith, refusal-numbered x)), λ e. absurd (found e))
+
+-- ---- which numbers the lines of a table have
+
+-- what a line finds has a number up to k
+abbrev pub UpTo : (k : ℕ) → Fault → Type 0
+UpTo k f = (r : Refusal) → f ≡ fault r → numberOf r ≤ k
+
+pub none-to : (k : ℕ) → UpTo k none
+none-to k r e = absurd (found (sym e))
+
+pub fault-to : (k : ℕ) (r : Refusal) → numberOf r ≤ k → UpTo k (fault r)
+fault-to k r h s e = let same : numberOf r ≡ numberOf s = ap (numbered 0) e in omega arith
+  where
+    numbered : ℕ → Fault → ℕ
+    numbered z none = z
+    numbered z (fault x) = numberOf x
+
+pub fails-to : (k : ℕ) (b : Bool) (r : Refusal) → numberOf r ≤ k → UpTo k (fails b r)
+fails-to k true r h = fault-to k r h
+fails-to k false r h = none-to k
+
+pub failsAt-to : (k : ℕ) (r : ℕ → Refusal) (p : ℕ → Bool) (c : ℕ) → ((i : ℕ) → numberOf (r i) ≤ k) → UpTo k (failsAt r p c)
+failsAt-to k r p c h = fails-to k (ltb (first p 0 c) c) (r (first p 0 c)) (h (first p 0 c))
+
+-- all lines of a table
+abbrev pub AllTo : (k : ℕ) → List Fault → Type 0
+AllTo k [] = Unit {0}
+AllTo k (f ∷ fs) = UpTo k f × AllTo k fs
+
+pub table-to : (k : ℕ) (fs : List Fault) → AllTo k fs → UpTo k (firstFault fs)
+table-to k [] a = none-to k
+table-to k (none ∷ fs) a = table-to k fs (a .1)
+table-to k (fault r ∷ fs) a = a .0

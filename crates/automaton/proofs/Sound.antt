@@ -8,12 +8,12 @@ use native.Mathlib.Omega.{arith}
 use lib.Dec.{eqb, ltb, leb}
 use lib.ListN.{length, getD}
 use borrow.Author.Tests.{ltb-true, ltb-false, leb-false, eqb-true, not-false, lt-ltb, le-ltb, lt-leb, eq-eqb}
-use Rattle.automaton.specs.Answer.{none, fault, fails, failsAt, firstFault, accepted}
+use Rattle.automaton.specs.Answer.{Fault, none, fault, fails, failsAt, firstFault, accepted}
 use Rattle.automaton.specs.Board.{Board, Formed, from, letter, to, above, Above, outside, unsorted}
-use Rattle.automaton.specs.Check.{high, statesFault, lettersFault, automatonFault, checked}
+use Rattle.automaton.specs.Check.{high, statesFault, lettersFault, faults, automatonFault, checked}
 use Rattle.automaton.specs.Limits.{mostStates, mostLetters}
 use Rattle.automaton.specs.declared.Refusal.the-variants.{States, Letters, Marks, Start, Bytes, Outside, Unsorted}
-use Rattle.automaton.proofs.Fault.{Line, always-line, fails-line, failsAt-line, _then_, end, table-line, unless-number}
+use Rattle.automaton.proofs.Fault.{Line, always-line, fails-line, failsAt-line, _then_, end, table-line, unless-number, UpTo, fault-to, fails-to, failsAt-to, table-to}
 
 -- ---- what each test says
 
@@ -142,3 +142,33 @@ automaton-line B start =
 pub sound : (B : Board) (start : ℕ) → (checked B start .number ≡ 0) ↔ (Formed B × (start < B .n))
 unfolding checked
 sound B start = Iff·trans (unless-number (automatonFault B start) accepted refl) (automaton-line B start)
+
+-- the refusals of `check` are those from 1 to 7
+pub automaton-to : (B : Board) (start : ℕ) → UpTo 7 (automatonFault B start)
+automaton-to B start =
+    table-to 7 (faults B start) (
+      fails-to 7 (ltb (B .n) 1 || ltb mostStates (B .n)) States (omega arith),
+      (
+        fails-to 7 (ltb (B .k) 1 || ltb mostLetters (B .k)) Letters (omega arith),
+        (
+          either (eqb (length (B .marks)) (B .n)) (failsAt-to 7 Marks (high (B .marks)) (B .n) (λ i. omega arith)) (fault-to 7 (Marks (B .n)) (omega arith)),
+          (
+            fails-to 7 (leb (B .n) start) Start (omega arith),
+            (
+              fails-to 7 (not (eqb (length (B .moves) % 3) 0)) Bytes (omega arith),
+              (
+                failsAt-to 7 Outside (outside (B .n) (B .k) (B .moves)) (length (B .moves) / 3) (λ i. omega arith),
+                (
+                  failsAt-to 7 Unsorted (unsorted (B .moves)) (length (B .moves) / 3) (λ i. omega arith),
+                  tt,
+                ),
+              ),
+            ),
+          ),
+        ),
+      ),
+    )
+  where
+    either : (b : Bool) {f g : Fault} → UpTo 7 f → UpTo 7 g → UpTo 7 (cond b f g)
+    either true p q = p
+    either false p q = q

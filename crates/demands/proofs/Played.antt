@@ -21,7 +21,7 @@ use Rattle.demands.specs.Replies.{TakesReplies}
 
 -- the table that an accepted `settle` leaves is the settled one, which is the least at rest
 module _ (j : Job) (lent : List ℕ) (accepted : settling j lent .answer .number ≡ 0) where
-  pub settled-is : settling j lent .left ≡ settled (j .board) (modeOf (j .mode)) .table
+  settled-is : settling j lent .left ≡ settled (j .board) (modeOf (j .mode)) .table
   settled-is = ap (λ (x : Effect (List ℕ)). x .left) (settle-does j lent (settle-accepted j lent .0 accepted))
 
   pub settled-proper : Proper j

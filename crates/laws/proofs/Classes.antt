@@ -14,12 +14,7 @@ use Rattle.automaton.proofs.First.{first-lowest}
 use Rattle.simulation.specs.Quotient.{chiefBy, leads, classBy}
 use Rattle.simulation.specs.Rules.{bit}
 use Rattle.simulation.proofs.Listed.{bit-most, bit-one}
-
--- being equal is an equivalence on the numbers below n
-pub record Equivalence (n : ℕ) (e : ℕ → ℕ → Bool) : Type 0 where
-  pub same : (q : ℕ) → q < n → e q q ≡ true
-  pub back : (q r : ℕ) → q < n → r < n → e q r ≡ true → e r q ≡ true
-  pub on : (q r s : ℕ) → q < n → r < n → s < n → e q r ≡ true → e r s ≡ true → e q s ≡ true
+use Rattle.laws.specs.Equivalence.{Equivalence}
 
 module _ (e : ℕ → ℕ → Bool) where
   -- ---- of any e

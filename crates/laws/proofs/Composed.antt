@@ -14,8 +14,10 @@ use Rattle.simulation.specs.Rules.{kindOf, owed}
 use Rattle.simulation.specs.Won.{Ahead}
 use Rattle.simulation.proofs.Moves.{targets-lt}
 use Rattle.simulation.proofs.Walks.{Good, beginning-good}
-use Rattle.laws.proofs.Families.{Family, round, Answer, Ranked, Begins, round-good, lost-means}
-use Rattle.laws.proofs.Ranks.{composed, composed-bounded, round-owing, owed-owing, Open, composed-fall}
+use Rattle.laws.specs.Families.{Family, round, Answer, Ranked, Begins}
+use Rattle.laws.proofs.Families.{round-good, lost-means}
+use Rattle.laws.specs.Ranks.{composed}
+use Rattle.laws.proofs.Ranks.{composed-bounded, round-owing, owed-owing, Open, composed-fall}
 
 -- (q,mid) and (mid,s) are held; what s owes to q it owes to mid, or mid owes it to q
 pub record Composed (B : Board) (m : Mode) (N : ℕ) (R : Family) (b q s k : ℕ) : Type 0 where

@@ -21,7 +21,7 @@ use Rattle.simulation.proofs.Walks.{Good, beginning-good, walk-good, obeys-kept
 use Rattle.simulation.proofs.Same.{byNumber, byNumber-agrees, to-walk}
 use Rattle.simulation.proofs.Relation.{least-won}
 use Rattle.simulation.proofs.Reply.{replies-chosen, replies-least, replies-won}
-use Rattle.laws.proofs.Families.{Answer, Ranked, Begins}
+use Rattle.laws.specs.Families.{Answer, Ranked, Begins}
 
 -- the entry at Spoiler's position is k, below T, and the position is in range and not idle
 pub record Entries (B : Board) (m : Mode) (t : List ℕ) (b q r k : ℕ) : Type 0 where

@@ -15,7 +15,7 @@ use Rattle.simulation.specs.Quotient.{equal, classOf}
 use Rattle.simulation.specs.Rules.{beginning, ceiling, game}
 use Rattle.simulation.specs.Won.{WonPair}
 use Rattle.simulation.proofs.Relation.{least-won}
-use Rattle.laws.proofs.Classes.{Equivalence}
+use Rattle.laws.specs.Equivalence.{Equivalence}
 use Rattle.laws.proofs.Preorder.{won-refl, won-trans}
 use Rattle.laws.proofs.Quotient.{class-same}
 

@@ -21,7 +21,7 @@ use Rattle.simulation.proofs.Inward.{steps-fit, inward}
 use Rattle.simulation.proofs.Turns.{isLow, turn-low}
 use Rattle.simulation.proofs.Walks.{beginning-good}
 use Rattle.simulation.proofs.Same.{won-same}
-use Rattle.laws.proofs.Families.{Family, Fall, Ranked, Begins}
+use Rattle.laws.specs.Families.{Family, Fall, Ranked, Begins}
 
 -- a position is held with rank k: Spoiler's by the family, Duplicator's if a move of Blue's leads to one of those
 abbrev Holds : Board → Mode → Family → Position → (k : ℕ) → Type 0

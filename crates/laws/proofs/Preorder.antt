@@ -6,7 +6,7 @@ use Rattle.simulation.specs.Rules.{ceiling}
 use Rattle.simulation.specs.Won.{WonPair}
 use Rattle.simulation.specs.Answers.{settled}
 use Rattle.simulation.proofs.Relation.{settled-rest, settled-least}
-use Rattle.laws.proofs.Families.{Begins}
+use Rattle.laws.specs.Families.{Begins}
 use Rattle.laws.proofs.Held.{held-won}
 use Rattle.laws.proofs.Entries.{Entries, entries-ranked, won-begins}
 use Rattle.laws.proofs.Composed.{Composed, composed-ranked, composed-begins}

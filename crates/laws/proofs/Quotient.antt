@@ -15,7 +15,8 @@ use Rattle.automaton.specs.First.{some}
 use Rattle.automaton.proofs.First.{some-is}
 use Rattle.simulation.specs.Quotient.{equal, chief, classOf, classCount, markOf, classMarks, classMoves, quotientOf, Image}
 use Rattle.simulation.proofs.Listed.{map-at, listed-length, bit-most, bit-one}
-use Rattle.laws.proofs.Classes.{Equivalence, chiefBy-equal, chiefBy-least, classes-few, classBy-same, classBy-order, classBy-lt, classBy-onto}
+use Rattle.laws.specs.Equivalence.{Equivalence}
+use Rattle.laws.proofs.Classes.{chiefBy-equal, chiefBy-least, classes-few, classBy-same, classBy-order, classBy-lt, classBy-onto}
 use Rattle.laws.proofs.Images.{moves-long, moves-ascend, quotient-moves}
 
 -- ---- of any table

@@ -1,4 +1,4 @@
--- The composed rank of two pairs (q,r) and (r,s), by their bits and marks alone. It goes on as a rank of (q,s) must.
+-- The composed rank of two pairs (q,r) and (r,s) goes on as a rank of (q,s) must.
 use mathlib.Core.Path.{_≡_, refl}
 use mathlib.Core.Bool.{Bool, true, false}
 use Prim.Native.Nat.{ℕ, zero, suc, _+_, _*_, _≤_, _<_}
@@ -9,20 +9,11 @@ use Rattle.automaton.specs.declared.Mode.the-variants.{Ordinary, Direct, Delaye
 use Rattle.simulation.specs.Position.{layers}
 use Rattle.simulation.specs.Rules.{turn, owed}
 use Rattle.simulation.proofs.Turns.{isIdle, owed-lt}
-use Rattle.laws.proofs.Families.{Fall, round, owed-round}
+use Rattle.laws.specs.Families.{Fall, round}
+use Rattle.laws.specs.Ranks.{composed}
+use Rattle.laws.proofs.Families.{owed-round}
 
 -- ---- the composed rank
-
--- b and d are the bits of (q,s) and (r,s); i and j, both below N, are the ranks of (q,r) and (r,s).
--- In mode 2 r has yet to accept while nothing is pending at (r,s), and the rank is that of (q,r) on top of N; then it is that of (r,s), below N.
--- In mode 3 the rank of (q,r) may rise where r accepts, and there that of (r,s) falls: it weighs N times as much.
-abbrev pub composed : Mode → (N b d i j : ℕ) → ℕ
-composed Ordinary N b d i j = 0
-composed Direct N b d i j = 0
-composed Delayed N zero d i j = 0
-composed Delayed N (suc b) zero i j = N + i
-composed Delayed N (suc b) (suc d) i j = j
-composed Fair N b d i j = j * N + i
 
 -- it is bounded as the two ranks are
 pub composed-bounded : (m : Mode) (N b d i j : ℕ) → i < N → j < N → composed m N b d i j < N + N + N * N

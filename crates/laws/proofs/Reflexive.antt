@@ -15,7 +15,8 @@ use Rattle.simulation.specs.Position.{spoiler}
 use Rattle.simulation.specs.Rules.{bit, turn, kindOf}
 use Rattle.simulation.proofs.Moves.{targets-lt}
 use Rattle.simulation.proofs.Walks.{Good, beginning-good}
-use Rattle.laws.proofs.Families.{round, Answer, Ranked, Begins, owed-round, round-good, lost-means}
+use Rattle.laws.specs.Families.{round, Answer, Ranked, Begins}
+use Rattle.laws.proofs.Families.{owed-round, round-good, lost-means}
 
 -- Red and Blue stand on one state, nothing is pending, and the rank is 0
 pub record Same (B : Board) (m : Mode) (b q r k : ℕ) : Type 0 where

@@ -1,1 +1,3 @@
--- No definitions: the laws speak of the crates below.
+pub mod Families
+pub mod Ranks
+pub mod Equivalence

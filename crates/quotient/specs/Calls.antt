@@ -38,14 +38,14 @@ outputFault B x =
 abbrev pub counted : (classes moves start : ℕ) → Answer
 counted classes moves start = record { number = 0; place = 0; values = classes ∷ moves ∷ start ∷ [] }
 
--- "settles the lent table itself", and writes the quotient by it
+-- the quotient by a table t: what is answered and written
 abbrev pub merging : Board → Mode → (start : ℕ) → (table : List ℕ) → Effect Buffers
 merging B m start t = record {
   answer = counted (classCount B m t) (moveCount B m t) (classOf B m t start);
   left = buffers t (classBytes B m t) (markBytes B m t) (moveBytes B m t);
 }
 
--- unless an output's length is at fault
+-- "settles the lent table itself", and writes the quotient by it, unless an output's length is at fault
 abbrev pub mergingUnless : Fault → Job → (lent : Buffers) → Effect Buffers
 mergingUnless f j x = let m = modeOf (j .mode) in does f x (merging (j .board) m (j .start) (settled (j .board) m .table))
 

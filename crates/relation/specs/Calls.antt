@@ -43,12 +43,12 @@ replying j t v =
     unless (openFault j (length t))
     (unless (firstFault (entryFault (gameOf j) t ∷ positionFault (gameOf j) v ∷ restFault (gameOf j) t ∷ [])) (replyAt (j .board) (modeOf (j .mode)) t v))
 
--- ---- what a call must be given, beside a well-formed automaton, a mode and a table at rest, for no refusal to apply
+-- ---- what a call must be given for no refusal to apply
 
 -- "n² bytes"
 abbrev pub Sized : Board → (bytes : List ℕ) → Type 0
 Sized B out = length out ≡ B .n * B .n
 
--- "On a table at rest, the reply at a Duplicator position that is not lost"
+-- a well-formed automaton and a mode, and "On a table at rest, the reply at a Duplicator position that is not lost"
 abbrev pub Answerable : Job → (table : List ℕ) → (v : ℕ) → Type 0
 Answerable j t v = Proper j × (AtRest (gameOf j) t × ((v < gameOf j .P) × ((pairs (j .board) (modeOf (j .mode)) ≤ v) × (at t v < gameOf j .T))))

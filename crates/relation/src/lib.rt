@@ -113,6 +113,7 @@ fn reply_at(g: Arena, marks: &[u8], moves: &[u8], table: &[u32], position: usize
     if top <= table[position] {
         return Replied::Refused(Refusal::LostPosition);
     }
+    // the parts of Duplicator's position, by its number
     let w = position - pairs;
     let u = w / letters;
     let p = u / states;

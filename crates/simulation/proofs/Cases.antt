@@ -11,5 +11,5 @@ unfolding lift ask lowest highest full firstLeast first
 worked = (refl, (refl, (refl, (refl, (refl, (refl, (refl, (refl, (refl, (refl, (refl, (refl, (refl, (refl, (refl, (refl, (refl, (refl, (refl, (refl, (refl, (refl, tt))))))))))))))))))))))
 
 pub unslipped : AllHold slips
-unfolding lift ask lowest highest full firstLeast
-unslipped = (refl, (refl, (refl, (refl, (refl, (refl, (refl, (refl, tt))))))))
+unfolding lift ask lowest highest full firstLeast first
+unslipped = (refl, (refl, (refl, (refl, (refl, (refl, (refl, (refl, (refl, (refl, tt))))))))))

@@ -103,6 +103,14 @@ boardMet = record { n = 3; k = 1; marks = 0 ∷ 1 ∷ 1 ∷ []; moves = 0 ∷ 0 
 abbrev pub boardTwo : Board
 boardTwo = record { n = 2; k = 2; marks = 0 ∷ 0 ∷ []; moves = 0 ∷ 0 ∷ 0 ∷ 1 ∷ 1 ∷ 1 ∷ [] }
 
+-- loop on 0 and 0 to 1, accept 1: at position 14, where an obligation is pending, Blue may stay on 0, entry 1, or go to 1, entry 0
+abbrev pub boardChoice : Board
+boardChoice = record { n = 2; k = 1; marks = 0 ∷ 1 ∷ []; moves = 0 ∷ 0 ∷ 0 ∷ 0 ∷ 0 ∷ 1 ∷ [] }
+
+-- three states without moves, accept 1: in mode 1 the states 0 and 2 are equal, and 1 is not
+abbrev pub boardApart : Board
+boardApart = record { n = 3; k = 1; marks = 0 ∷ 1 ∷ 0 ∷ []; moves = [] }
+
 abbrev pub slips : List Case
 slips =
     -- "Clearing b before Blue moves"
@@ -120,4 +128,8 @@ slips =
     -- the order of work shows in the table before rest: "lifts 15 then 6 leave entry 15 at 0; 6 then 15 make it 1"
     ∷ number (at (lifts (game boardA Delayed) (cleared (game boardA Delayed)) (15 ∷ 6 ∷ [])) 15) 0
     ∷ number (at (lifts (game boardA Delayed) (cleared (game boardA Delayed)) (6 ∷ 15 ∷ [])) 15) 1
+    -- the least entry, and not any below T
+    ∷ answers (replyAt boardChoice Delayed (tableOf boardChoice Delayed) 14) (valued 1)
+    -- classes in the order of their least members, and not of their greatest
+    ∷ numbers (classBytes boardApart Direct (tableOf boardApart Direct)) (0 ∷ 1 ∷ 0 ∷ [])
     ∷ []

@@ -4,7 +4,8 @@ use Rattle.games.specs.Game.{ask, lowest, highest, full}
 use Rattle.games.specs.Lift.{lift}
 use Rattle.automaton.specs.First.{first}
 use Rattle.table.specs.Calls.{lifted, lifting, rested, resting, settling}
-use Rattle.table.specs.Cases.{AllHold, cases}
+use Rattle.simulation.specs.Cases.{AllHold}
+use Rattle.table.specs.Cases.{cases}
 
 pub worked : AllHold cases
 unfolding lift ask lowest highest full first lifted lifting rested resting settling

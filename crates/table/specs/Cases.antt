@@ -1,12 +1,11 @@
 -- The calls on automaton A in mode 2, computed: what each answers, which refusal comes first, and that the order of lifts shows.
-use mathlib.Core.Path.{_≡_}
 use mathlib.Core.List.{List, [], _∷_}
 use Prim.Native.Nat.{ℕ}
 use lib.ListN.{replicate}
 use Rattle.games.specs.Game.{at}
 use Rattle.automaton.specs.declared.Refusal.the-variants.{ModeNumber, TableLength, AboveCeiling, PositionNumber}
-use Rattle.automaton.specs.Answer.{Answer, valued, placed, refused}
-use Rattle.simulation.specs.Cases.{boardA}
+use Rattle.automaton.specs.Answer.{valued, placed, refused}
+use Rattle.simulation.specs.Cases.{boardA, Case, number, answers}
 use Rattle.arena.specs.Job.{Job}
 use Rattle.arena.specs.Refusals.{topping}
 use Rattle.table.specs.Calls.{lifting, resting, settling}
@@ -26,22 +25,12 @@ tooHigh = 0 ∷ 0 ∷ 0 ∷ 4 ∷ zeros 12
 abbrev pub twoLifts : (u v : ℕ) → List ℕ
 twoLifts u v = lifting (jobA 2) (lifting (jobA 2) (zeros 16) u .left) v .left
 
--- what the definitions give, and what is stated
-pub data Case : Type 0 where
-  answers : (given stated : Answer) → Case
-  entry : (given stated : ℕ) → Case
-
-abbrev pub AllHold : List Case → Type 0
-AllHold [] = Unit {0}
-AllHold (answers x y ∷ cs) = (x ≡ y) × AllHold cs
-AllHold (entry x y ∷ cs) = (x ≡ y) × AllHold cs
-
 abbrev pub cases : List Case
 cases =
     answers (topping (jobA 2)) (valued 3)
     -- "A, mode 2, cleared: lifts 15 then 6 leave entry 15 at 0; 6 then 15 make it 1."
-    ∷ entry (at (twoLifts 15 6) 15) 0
-    ∷ entry (at (twoLifts 6 15) 15) 1
+    ∷ number (at (twoLifts 15 6) 15) 0
+    ∷ number (at (twoLifts 6 15) 15) 1
     ∷ answers (lifting (jobA 2) (zeros 16) 15 .answer) (valued 0)
     ∷ answers (lifting (jobA 2) (zeros 16) 6 .answer) (valued 1)
     -- the cleared table is not at rest, and 4 is the lowest position that shows it; the settled one is
