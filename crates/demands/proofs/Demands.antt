@@ -2,41 +2,45 @@
 -- They speak of the calls' promises, which are functions: `checked`, `clearing`, `lifting`, `resting`, `settling`, `relating`, `replying` and
 -- `quotienting` give, for every input, what a call answers and what it leaves in the buffers lent to it. The code is proved to do that.
 -- A job is an automaton, by its board and its start, and the number of a mode.
-use mathlib.Core.Path.{_≡_, sym, ap, _∙_}
-use mathlib.Core.Logic.{_≢_, _↔_, _⊎_}
+use mathlib.Core.Path.{_≡_, refl, sym, ap, _∙_}
+use mathlib.Core.Logic.{_≢_, _↔_, _⊎_, ⊎-elim}
 use mathlib.Core.Bool.{true, false}
 use mathlib.Core.List.{List}
 use Prim.Native.Nat.{ℕ, _+_, _*_, _≤_, _<_}
 use lib.ListN.{length, getD}
 use borrow.Author.Tests.{ne-eqb}
-use Rattle.games.specs.Game.{at}
+use Rattle.games.specs.Game.{asked, at}
 use Rattle.games.specs.Lift.{Capped, Covers, AtRest, Least}
 use Rattle.automaton.specs.declared.Mode.the-variants.{Delayed, Fair}
 use Rattle.automaton.specs.declared.Refusal.{Refusal}
 use Rattle.automaton.specs.declared.Named.the-variants.{Unknown}
 use Rattle.automaton.specs.declared.Refusal.the-variants.{ModeNumber, TableLength, NotAtRest}
-use Rattle.automaton.specs.Answer.{Answer, valued, placed, refused, fault}
+use Rattle.automaton.specs.declared.Automaton.{Automaton}
+use Rattle.automaton.specs.Answer.{valued, placed, numberOf, refused, Fault, none, fault}
 use Rattle.automaton.specs.Board.{Board, Formed, accepts}
-use Rattle.automaton.specs.Check.{answerOf, automatonFault, checked}
-use Rattle.automaton.specs.Limits.{nameOf}
+use Rattle.automaton.specs.Check.{answerOf, automatonFault, limited, checked}
+use Rattle.automaton.specs.Limits.{mostStates, mostLetters, nameOf}
 use Rattle.automaton.proofs.One.{one-result}
-use Rattle.automaton.proofs.Sound.{automaton-line, sound}
+use Rattle.automaton.proofs.Sound.{automaton-line, automaton-to, sound}
 use Rattle.simulation.specs.Answers.{replies}
 use Rattle.simulation.specs.Meaning.{LowestLeast, Brings, ahead, tallyAll, Leaves}
 use Rattle.simulation.specs.Moves.{Moves}
 use Rattle.simulation.specs.Position.{Position, spoiler, duplicator, number, Fits}
-use Rattle.simulation.specs.Rules.{ceiling}
+use Rattle.simulation.specs.Rules.{ceiling, game}
 use Rattle.simulation.specs.Won.{Choices, Walks, Answered, WonPair}
 use Rattle.simulation.proofs.Meaning as playing
 use Rattle.simulation.proofs.Relation.{relation-rest, relation-least}
 use Rattle.simulation.proofs.Reply.{has-move, reply-lowest-least}
 use Rattle.arena.specs.Job.{Job, modeOf, gameOf}
-use Rattle.arena.specs.Refusals.{openFault, Proper, Fitting}
+use Rattle.arena.specs.Answers.{ofCounted}
+use Rattle.arena.specs.Refusals.{openFault, Proper, Fitting, sizing, topping}
+use Rattle.arena.proofs.Accepted.{positions-accepted, ceiling-accepted}
+use Rattle.arena.proofs.One.{one-counted}
 use Rattle.arena.proofs.Open.{job-line, open-line}
 use Rattle.table.specs.Answers.{ofCleared, ofLifted, ofRested, ofSettled}
 use Rattle.table.specs.Calls.{clearing, lifting, resting, settling}
 use Rattle.table.proofs.Accepted.{clear-accepted, clear-refused, lift-accepted, lift-refused, rest-accepted, settle-accepted, settle-refused}
-use Rattle.table.proofs.AtRest.{rest-told}
+use Rattle.table.proofs.AtRest.{rest-told, rest-lowest, rest-either}
 use Rattle.table.proofs.One.{one-cleared, one-lifted, one-rested, one-settled}
 use Rattle.relation.specs.Answers.{ofRelated, ofReplied}
 use Rattle.relation.specs.Calls.{relating, replying, Answerable}
@@ -50,7 +54,7 @@ use Rattle.quotient.proofs.Accepted.{quotient-accepted, quotient-refused}
 use Rattle.quotient.proofs.One.{one-merged}
 use Rattle.demands.specs.Ends.{answering, Ends, One}
 use Rattle.demands.specs.Replies.{jobIn, TakesReplies}
-use Rattle.demands.proofs.Ends.{rest-refuses, reply-refuses, check-refuses, one}
+use Rattle.demands.proofs.Ends.{limits-accepted, limits-refuses, check-refuses, positions-refuses, ceiling-refuses, rest-refuses, reply-refuses, one}
 use Rattle.demands.proofs.Played.{settled-proper, settled-least, relation-left, takes-heeds}
 use Rattle.demands.specs.Order.{Call, AllOrderly, after, raised, duePositions}
 use Rattle.demands.proofs.Lifted as lifting
@@ -62,7 +66,7 @@ use Rattle.quotient.proofs.Meaning as merging
 -- "Every call ends properly for every input. A malformed automaton, an unknown mode, a table of wrong length, or not at rest where rest is needed,
 -- gets its numbered refusal, and a refused call writes nothing in the buffers lent to it."
 
--- Of each call: it is accepted exactly if it is given what it needs; if not, it answers a numbered refusal and leaves what it was lent;
+-- Of each call that refuses: it is accepted exactly if it is given what it needs; if not, it answers a numbered refusal and leaves what it was lent;
 -- and two results that meet its promise are the same.
 
 pub check-ends : (B : Board) (start : ℕ) → Ends tt (answering (checked B start)) (Formed B × (start < B .n))
@@ -70,6 +74,25 @@ check-ends B start = record { accepted = sound B start; refused = check-refuses 
 
 pub check-one : (B : Board) (start : ℕ) → One answerOf (answering (checked B start))
 check-one B start = one answerOf (answering (checked B start)) one-result
+
+pub limits-ends : (n k : ℕ) → Ends tt (answering (limited n k)) (((0 < n) × (n ≤ mostStates)) × ((0 < k) × (k ≤ mostLetters)))
+limits-ends n k = record { accepted = limits-accepted n k; refused = limits-refuses n k }
+
+pub limits-one : (n k : ℕ) → One answerOf (answering (limited n k))
+limits-one n k = one answerOf (answering (limited n k)) one-result
+
+pub positions-ends : (a : Automaton) (mode : ℕ)
+    → Ends tt (answering (sizing a mode)) (((0 < a .states) × (a .states ≤ mostStates)) × ((0 < a .letters) × (a .letters ≤ mostLetters)) × (nameOf mode ≢ Unknown))
+positions-ends a mode = record { accepted = positions-accepted a mode; refused = positions-refuses a mode }
+
+pub positions-one : (a : Automaton) (mode : ℕ) → One ofCounted (answering (sizing a mode))
+positions-one a mode = one ofCounted (answering (sizing a mode)) one-counted
+
+pub ceiling-ends : (j : Job) → Ends tt (answering (topping j)) (Proper j)
+ceiling-ends j = record { accepted = ceiling-accepted j; refused = ceiling-refuses j }
+
+pub ceiling-one : (j : Job) → One ofCounted (answering (topping j))
+ceiling-one j = one ofCounted (answering (topping j)) one-counted
 
 module _ (j : Job) (t : List ℕ) where
   pub clear-ends : Ends t (clearing j t) (Fitting j t)
@@ -126,10 +149,16 @@ pub same-refusal : (j : Job) (t : List ℕ) (r : Refusal) → openFault j (lengt
 unfolding clearing settling lifting resting relating replying quotienting
 same-refusal j t r e = (simp e, simp e, λ v. simp e, simp e, λ out. simp e, λ v. simp e, λ classes marks moves. simp e)
 
--- "A malformed automaton"
-pub malformed-refused : (j : Job) (t : List ℕ) (r : Refusal) → automatonFault (j .board) (j .start) ≡ fault r → (checked (j .board) (j .start) ≡ refused r) × (openFault j (length t) ≡ fault r)
+-- "A malformed automaton" gets one of the refusals 1 to 7, from `check` and from every call on a table
+pub malformed-refused : (j : Job) (t : List ℕ) → ¬ (Formed (j .board) × (j .start < j .board .n))
+    → (r : Refusal) × (numberOf r ≤ 7) × (checked (j .board) (j .start) ≡ refused r) × (openFault j (length t) ≡ fault r)
 unfolding checked
-malformed-refused j t r e = (simp e, simp e)
+malformed-refused j t n = go (automatonFault (j .board) (j .start)) refl
+  where
+    go : (f : Fault) → automatonFault (j .board) (j .start) ≡ f
+        → (r : Refusal) × (numberOf r ≤ 7) × (checked (j .board) (j .start) ≡ refused r) × (openFault j (length t) ≡ fault r)
+    go none e = absurd (n (automaton-line (j .board) (j .start) .0 e))
+    go (fault r) e = (r, automaton-to (j .board) (j .start) r e, simp e, simp e)
 
 -- "an unknown mode"
 pub unknown-refused : (j : Job) (t : List ℕ) → Formed (j .board) → j .start < j .board .n → nameOf (j .mode) ≡ Unknown → openFault j (length t) ≡ fault ModeNumber
@@ -139,14 +168,28 @@ unknown-refused j t F s e = simp (automaton-line (j .board) (j .start) .1 (F, s)
 pub length-refused : (j : Job) (t : List ℕ) → Proper j → length t ≢ gameOf j .P → openFault j (length t) ≡ fault TableLength
 length-refused j t p n = simp (job-line j .1 p, ne-eqb (length t) (gameOf j .P) n)
 
--- "or not at rest where rest is needed": `rest` names the lowest position that is not, and so do `relation` and `reply`
-pub restless-refused : (j : Job) (t : List ℕ) (v : ℕ) → resting j t ≡ placed v
-    → ((out : List ℕ) → relating j t out ≡ record { answer = refused (NotAtRest v); left = out })
+-- "or not at rest where rest is needed": `rest` has value 1 exactly for a table at rest, else it names the lowest position that is not,
+pub rest-means : (j : Job) (t : List ℕ) → (resting j t ≡ valued 1) ↔ (Proper j × AtRest (gameOf j) t)
+rest-means = rest-told
+
+-- and `relation` and `reply` refuse with 12 and that position.
+pub restless-refused : (j : Job) (t : List ℕ) → Fitting j t → Capped (gameOf j) t → ¬ AtRest (gameOf j) t
+    → (v : ℕ) × (v < gameOf j .P) × (at t v < asked (gameOf j) (at t) v) × ((u : ℕ) → u < v → asked (gameOf j) (at t) u ≤ at t u)
+    × (resting j t ≡ placed v)
+    × ((out : List ℕ) → relating j t out ≡ record { answer = refused (NotAtRest v); left = out })
     × ((u : ℕ) → u < gameOf j .P → replying j t u ≡ refused (NotAtRest v))
-restless-refused j t v e =
-    let o = open-line j t .1 (rest-accepted j t .0 (ap (λ (a : Answer). a .number) e) .0) in
-    let r = rest-placed j t o v (sym e) in
-    (λ out. relating-restless j t o out (NotAtRest v) r, λ u h. replying-restless j t o u (NotAtRest v) r h)
+restless-refused j t f c n = ⊎-elim (λ e. absurd (n (rest-told j t .0 e .1))) told (rest-either j t f c)
+  where
+    told : (v : ℕ) × (resting j t ≡ placed v)
+        → (v : ℕ) × (v < gameOf j .P) × (at t v < asked (gameOf j) (at t) v) × ((u : ℕ) → u < v → asked (gameOf j) (at t) u ≤ at t u)
+        × (resting j t ≡ placed v)
+        × ((out : List ℕ) → relating j t out ≡ record { answer = refused (NotAtRest v); left = out })
+        × ((u : ℕ) → u < gameOf j .P → replying j t u ≡ refused (NotAtRest v))
+    told (v, e) =
+        let o = open-line j t .1 f in
+        let r = rest-placed j t o v (sym e) in
+        let l = rest-lowest j t v e in
+        (v, l .0, l .1 .0, l .1 .1, e, λ out. relating-restless j t o out (NotAtRest v) r, λ u h. replying-restless j t o u (NotAtRest v) r h)
 
 -- ==== Demand 2
 
@@ -170,36 +213,29 @@ reported-won j t out told q r h l e =
     relation-rest (j .board) (p .0) (modeOf (j .mode)) t q r h l s (sym (ap (λ (b : List ℕ). getD b (q * j .board .n + r) 0) (relation-left j t out told)) ∙ e)
 
 -- On a table at rest `reply` answers at every Duplicator's position that is not lost, with the lowest numbered state among the moves to the least entry.
-pub reply-told : (j : Job) (t : List ℕ) → resting j t ≡ valued 1 → (b q r a : ℕ) → let B = j .board in let m = modeOf (j .mode) in
+pub reply-told : (j : Job) (t : List ℕ) → Proper j → AtRest (gameOf j) t → (b q r a : ℕ) → let B = j .board in let m = modeOf (j .mode) in
     Fits B m (duplicator b q r a) → at t (number B m (duplicator b q r a)) < ceiling B m
     → (s : ℕ) × (replying j t (number B m (duplicator b q r a)) ≡ valued s) × LowestLeast B m t b q r a s
-reply-told j t e b q r a h l =
+reply-told j t p s b q r a h l =
     let B = j .board in
     let m = modeOf (j .mode) in
-    let (p, s) = rest-told j t .0 e in
     (replies B m t b q r a, reply-does j t p s b q r a h l, reply-lowest-least B (p .0) m t b q r a (has-move B (p .0) m t s b q r a h l))
 
 -- "In delayed mode, replies from any table at rest meet each obligation pending at a Spoiler's position neither lost nor idle
 -- within as many rounds as its entry says, unless Spoiler runs out of moves."
-pub obligations-met : (B : Board) (start : ℕ) (t : List ℕ) → resting (jobIn B start 2) t ≡ valued 1
+pub obligations-met : (B : Board) (start : ℕ) (t : List ℕ) → Proper (jobIn B start 2) → AtRest (game B Delayed) t
     → (σ : Choices) → TakesReplies (jobIn B start 2) t σ
     → (q r : ℕ) → q < B .n → r < B .n → accepts B r ≡ false → at t (number B Delayed (spoiler 1 q r)) < ceiling B Delayed
     → Brings B σ (at t (number B Delayed (spoiler 1 q r))) (spoiler 1 q r)
-obligations-met B start t e σ takes =
-    let j = jobIn B start 2 in
-    let (p, s) = rest-told j t .0 e in
-    playing.delayed-rounds B (p .0) t s σ (takes-heeds j t e σ takes)
+obligations-met B start t p s σ takes = playing.delayed-rounds B (p .0) t s σ (takes-heeds (jobIn B start 2) t p s σ takes)
 
 -- The count of fair mode, likewise: at most as many Spoiler's positions with Red accepting and Blue not, the present one counted,
 -- come before the first where Blue accepts, or in all if none does.
-pub fair-counted : (B : Board) (start : ℕ) (t : List ℕ) → resting (jobIn B start 3) t ≡ valued 1
+pub fair-counted : (B : Board) (start : ℕ) (t : List ℕ) → Proper (jobIn B start 3) → AtRest (game B Fair) t
     → (σ : Choices) → TakesReplies (jobIn B start 3) t σ
     → (q r : ℕ) → q < B .n → r < B .n → at t (number B Fair (spoiler 0 q r)) < ceiling B Fair
     → {u : Position} (c : Walks B Fair σ (spoiler 0 q r) u) → (Leaves (Answered B) c → ⊥) → tallyAll (ahead B) c ≤ at t (number B Fair (spoiler 0 q r))
-fair-counted B start t e σ takes =
-    let j = jobIn B start 3 in
-    let (p, s) = rest-told j t .0 e in
-    playing.fair-count B (p .0) t s σ (takes-heeds j t e σ takes)
+fair-counted B start t p s σ takes = playing.fair-count B (p .0) t s σ (takes-heeds (jobIn B start 3) t p s σ takes)
 
 -- What the stamp is set on: an accepted `quotient` merges exactly the states that are won against each other both ways,
 module _ (j : Job) (x : Buffers) (told : quotienting j x .answer .number ≡ 0) where
@@ -213,6 +249,13 @@ module _ (j : Job) (x : Buffers) (told : quotienting j x .answer .number ≡ 0) 
   pub merged-won : (q r : ℕ) → q < j .board .n → r < j .board .n
       → (class q ≡ class r) ↔ (WonPair (j .board) (modeOf (j .mode)) q r × WonPair (j .board) (modeOf (j .mode)) r q)
   merged-won = merging.merged-won j x told
+
+  -- numbers the classes from 0 on without a gap, in the order of their least members,
+  pub merged-below : (q : ℕ) → q < j .board .n → class q < reduced .n
+  merged-below = merging.merged-below j x told
+
+  pub merged-order : (c d : ℕ) → c < d → d < reduced .n → (q : ℕ) × (q < j .board .n) × (class q ≡ c) × ((r : ℕ) → r < j .board .n → class r ≡ d → q < r)
+  merged-order = merging.merged-order j x told
 
   -- writes a well-formed automaton, its moves strictly ascending and so each once,
   pub merged-formed : Formed reduced
@@ -234,13 +277,12 @@ module _ (j : Job) (x : Buffers) (told : quotienting j x .answer .number ≡ 0) 
 -- "Start from a cleared table, one automaton and one mode, with nobody else writing the table.
 -- Lift positions one at a time, in any order, repeats and refused calls among them."
 
--- An accepted `clear` of a lent table,
-module _ (j : Job) (lent : List ℕ) (cleared : clearing j lent .answer .number ≡ 0) where
-  -- There is a least table at rest: the one that `settle` leaves.
-  pub least-table : Least (gameOf j) (settling j lent .left)
-  least-table = lifting.settled-least j lent cleared
+-- There is a least table at rest: the one that an accepted `settle` leaves.
+pub least-table : (j : Job) (lent : List ℕ) → settling j lent .answer .number ≡ 0 → Least (gameOf j) (settling j lent .left)
+least-table = settled-least
 
-  -- and calls of `lift` after it, of which those for other jobs or with other buffers are refused.
+-- An accepted `clear` of a lent table, and calls of `lift` after it; those among them for other jobs or with other buffers are to be refused ones.
+module _ (j : Job) (lent : List ℕ) (cleared : clearing j lent .answer .number ≡ 0) where
   module _ (cs : List Call) (orderly : AllOrderly j (clearing j lent .left) cs) where
     -- the table after the calls, and how many of them raised an entry
     abbrev table : List ℕ

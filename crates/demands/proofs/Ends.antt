@@ -1,20 +1,24 @@
 -- Calls that are lent no buffer end properly as well, and results that meet a promise are the same.
 use mathlib.Core.Path.{_≡_, refl, sym, _∙_}
-use mathlib.Core.Logic.{_≢_}
+use mathlib.Core.Logic.{_≢_, _↔_, Iff·trans}
 use mathlib.Core.List.{List, [], _∷_}
-use Prim.Native.Nat.{ℕ}
+use Prim.Native.Nat.{ℕ, _≤_, _<_}
 use lib.ListN.{length}
 use Rattle.games.specs.Game.{at}
 use Rattle.automaton.specs.declared.Mode.{Mode}
 use Rattle.automaton.specs.Answer.{Answer, accepted, valued, Fault, none, fault, firstFault, unless}
-use Rattle.automaton.specs.Board.{Board}
-use Rattle.automaton.specs.Check.{automatonFault, checked}
+use Rattle.automaton.specs.declared.Automaton.{Automaton}
+use Rattle.automaton.specs.Board.{Board, boardOf}
+use Rattle.automaton.specs.Limits.{mostStates, mostLetters}
+use Rattle.automaton.proofs.Fault.{unless-number}
+use Rattle.automaton.proofs.Sound.{limits-line}
+use Rattle.automaton.specs.Check.{statesFault, lettersFault, automatonFault, limited, checked}
 use Rattle.automaton.specs.First.{first}
 use Rattle.simulation.specs.Answers.{blueMoves, blueReply, turnFault, lostFault, moveFault, replyOn}
-use Rattle.simulation.specs.Position.{Position, position}
+use Rattle.simulation.specs.Position.{Position, positions, position}
 use Rattle.simulation.specs.Rules.{ceiling}
 use Rattle.arena.specs.Job.{Job, modeOf, gameOf}
-use Rattle.arena.specs.Refusals.{openFault}
+use Rattle.arena.specs.Refusals.{modeFault, jobFault, openFault, sizing, topping}
 use Rattle.table.specs.Calls.{entryFault, positionFault, restless, rested, resting}
 use Rattle.table.proofs.Accepted.{rest-number}
 use Rattle.relation.specs.Calls.{restFault, replying}
@@ -22,9 +26,24 @@ use Rattle.automaton.specs.Effect.{Effect, Refuses}
 use Rattle.demands.specs.Ends.{answering, One}
 
 -- a refusal, or what comes after the refusals
-pub unless-refuses : (f : Fault) (a : Answer) → (a .number ≢ 0 → Refuses tt (answering a)) → unless f a .number ≢ 0 → Refuses tt (answering (unless f a))
+unless-refuses : (f : Fault) (a : Answer) → (a .number ≢ 0 → Refuses tt (answering a)) → unless f a .number ≢ 0 → Refuses tt (answering (unless f a))
 unless-refuses none a k n = k n
 unless-refuses (fault r) a k n = (r, refl)
+
+pub limits-accepted : (n k : ℕ) → (limited n k .number ≡ 0) ↔ (((0 < n) × (n ≤ mostStates)) × ((0 < k) × (k ≤ mostLetters)))
+unfolding limited
+limits-accepted n k = Iff·trans (unless-number (firstFault (statesFault n ∷ lettersFault k ∷ [])) accepted refl) (limits-line n k)
+
+pub limits-refuses : (n k : ℕ) → limited n k .number ≢ 0 → Refuses tt (answering (limited n k))
+unfolding limited
+limits-refuses n k = unless-refuses (firstFault (statesFault n ∷ lettersFault k ∷ [])) accepted (λ n. absurd (n refl))
+
+pub positions-refuses : (a : Automaton) (mode : ℕ) → sizing a mode .number ≢ 0 → Refuses tt (answering (sizing a mode))
+positions-refuses a mode =
+    unless-refuses (firstFault (statesFault (a .states) ∷ lettersFault (a .letters) ∷ modeFault mode ∷ [])) (valued (positions (boardOf a [] []) (modeOf mode))) (λ n. absurd (n refl))
+
+pub ceiling-refuses : (j : Job) → topping j .number ≢ 0 → Refuses tt (answering (topping j))
+ceiling-refuses j = unless-refuses (jobFault j) (valued (gameOf j .T)) (λ n. absurd (n refl))
 
 pub check-refuses : (B : Board) (start : ℕ) → checked B start .number ≢ 0 → Refuses tt (answering (checked B start))
 unfolding checked

@@ -11,8 +11,8 @@ use Rattle.games.proofs.Raises as raising-laws
 use Rattle.games.proofs.Settle as settling-laws
 use Rattle.arena.specs.Job.{Job, gameOf}
 use Rattle.automaton.specs.Effect.{Effect}
-use Rattle.table.specs.Calls.{clearing, settling}
-use Rattle.table.proofs.Accepted.{clear-accepted, clear-does, settle-does}
+use Rattle.table.specs.Calls.{clearing}
+use Rattle.table.proofs.Accepted.{clear-accepted, clear-does}
 use Rattle.demands.specs.Order.{Call, AllOrderly, after, raised, duePositions}
 use Rattle.demands.proofs.Order.{Held, after-lifts, held-after}
 
@@ -23,11 +23,6 @@ module _ (j : Job) (lent : List ℕ) (accepted : clearing j lent .answer .number
 
   held : Held j (clearing j lent .left)
   held = subst (Held j) (sym start) (record { proper = clear-accepted j lent .0 accepted .0; entries = cleared-entries (gameOf j); capped = cleared-capped (gameOf j) })
-
-  -- the least table at rest is the one that `settle` leaves
-  pub settled-least : Least (gameOf j) (settling j lent .left)
-  settled-least =
-      subst (Least (gameOf j)) (sym (ap (λ (x : Effect (List ℕ)). x .left) (settle-does j lent (clear-accepted j lent .0 accepted)))) (settling-laws.settle-least (gameOf j))
 
   -- and orderly calls of `lift` after it.
   module _ (cs : List Call) (orderly : AllOrderly j (clearing j lent .left) cs) where

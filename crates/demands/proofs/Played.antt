@@ -2,9 +2,8 @@
 use mathlib.Core.Path.{_≡_, sym, ap, subst}
 use mathlib.Core.List.{List}
 use Prim.Native.Nat.{ℕ}
-use Rattle.games.specs.Lift.{Least}
+use Rattle.games.specs.Lift.{AtRest, Least}
 use Rattle.games.proofs.Settle.{settle-least}
-use Rattle.automaton.specs.Answer.{valued}
 use Rattle.automaton.specs.Effect.{Effect}
 use Rattle.simulation.specs.Answers.{settled, relation, replies}
 use Rattle.simulation.specs.Meaning.{Heeds}
@@ -12,9 +11,8 @@ use Rattle.simulation.specs.Position.{number}
 use Rattle.simulation.specs.Won.{Choices}
 use Rattle.arena.specs.Job.{Job, modeOf, gameOf}
 use Rattle.arena.specs.Refusals.{Proper}
-use Rattle.table.specs.Calls.{settling, resting}
+use Rattle.table.specs.Calls.{settling}
 use Rattle.table.proofs.Accepted.{settle-accepted, settle-does}
-use Rattle.table.proofs.AtRest.{rest-told}
 use Rattle.relation.specs.Calls.{relating}
 use Rattle.relation.proofs.Accepted.{relation-accepted, relation-does, reply-does}
 use Rattle.demands.specs.Replies.{TakesReplies}
@@ -37,7 +35,6 @@ relation-left j t out accepted =
     ap (λ (x : Effect (List ℕ)). x .left) (relation-does j t out p r s)
 
 -- whoever takes the replies of a table at rest follows them
-pub takes-heeds : (j : Job) (t : List ℕ) → resting j t ≡ valued 1 → (σ : Choices) → TakesReplies j t σ → Heeds (j .board) (modeOf (j .mode)) t σ
-takes-heeds j t e σ takes b q r a h l =
-    let (p, s) = rest-told j t .0 e in
+pub takes-heeds : (j : Job) (t : List ℕ) → Proper j → AtRest (gameOf j) t → (σ : Choices) → TakesReplies j t σ → Heeds (j .board) (modeOf (j .mode)) t σ
+takes-heeds j t p s σ takes b q r a h l =
     takes b q r a h (replies (j .board) (modeOf (j .mode)) t b q r a) (reply-does j t p s b q r a h l)

@@ -13,13 +13,15 @@ use Rattle.automaton.specs.Board.{Board, Formed, accepts}
 use Rattle.automaton.specs.Effect.{Effect}
 use Rattle.simulation.specs.Answers.{settled}
 use Rattle.simulation.specs.Moves.{Moves}
-use Rattle.simulation.specs.Quotient.{classOf, classCount, classMarks, classMoves, quotientOf, Image}
+use Rattle.simulation.specs.Quotient.{equal, chief, classOf, classCount, classMarks, classMoves, quotientOf, Image}
 use Rattle.simulation.specs.Won.{WonPair}
 use Rattle.simulation.proofs.Listed.{listed-length}
 use Rattle.simulation.proofs.Relation.{settled-least}
 use Rattle.laws.proofs.Equal.{equal-equivalence, class-won}
 use Rattle.laws.proofs.Images.{quotient-moves, moves-long}
-use Rattle.laws.proofs.Quotient.{quotient-formed, mark-is}
+use Rattle.laws.specs.Equivalence.{Equivalence}
+use Rattle.laws.proofs.Classes.{chiefBy-most}
+use Rattle.laws.proofs.Quotient.{class-below, class-order, class-onto, quotient-formed, mark-is}
 use Rattle.arena.specs.Job.{Job, modeOf}
 use Rattle.quotient.specs.Calls.{Buffers, merging, quotienting, written}
 use Rattle.quotient.proofs.Accepted.{quotient-accepted, quotient-does}
@@ -65,11 +67,32 @@ module _ (j : Job) (x : Buffers) (accepted : quotienting j x .answer .number ≡
   merged-won q r h l =
       Iff·trans (λ e. sym (class-is q h) ∙ e ∙ class-is r l, λ e. class-is q h ∙ e ∙ sym (class-is r l)) (class-won B formed m t (settled-least B m) q r h l)
 
+  -- "Classes are numbered 0, 1 and on": the numbers below the count, and no others
+  count-is : getD (quotienting j x .answer .values) 0 0 ≡ classCount B m t
+  count-is = ap (λ (e : Effect Buffers). getD (e .answer .values) 0 0) does
+
+  equals : Equivalence (B .n) (equal B m t)
+  equals = equal-equivalence B formed m t (settled-least B m)
+
+  pub merged-below : (q : ℕ) → q < B .n → class q < getD (quotienting j x .answer .values) 0 0
+  merged-below q h = omega (arith, class-is q h, count-is, class-below B m t equals q h)
+
+  -- "in the order of their least members"
+  pub merged-order : (c d : ℕ) → c < d → d < getD (quotienting j x .answer .values) 0 0 → (q : ℕ) × (q < B .n) × (class q ≡ c) × ((r : ℕ) → r < B .n → class r ≡ d → q < r)
+  merged-order c d l h =
+      let (q, i, lead, e) = class-onto B m t c (omega (arith, count-is)) in
+      (q, i, class-is q i ∙ e, λ r k s. lower q i lead r k (sym (class-is q i ∙ e)) (sym (class-is r k) ∙ s))
+    where
+      lower : (q : ℕ) → q < B .n → chief B m t q ≡ q → (r : ℕ) → r < B .n → c ≡ class q → classOf B m t r ≡ d → q < r
+      lower q i lead r k e s =
+          let less : chief B m t q < chief B m t r = class-order B m t equals q r i k .1 (omega (arith, class-is q i)) in
+          omega (arith, lead, chiefBy-most (equal B m t) r)
+
   read-back : written (B .k) (quotienting j x) ≡ quotientOf B m t
   read-back = ap (written (B .k)) does ∙ written-is B m (j .start) t
 
   pub merged-formed : Formed (written (B .k) (quotienting j x))
-  merged-formed = subst Formed (sym read-back) (quotient-formed B m t (equal-equivalence B formed m t (settled-least B m)) formed)
+  merged-formed = subst Formed (sym read-back) (quotient-formed B m t equals formed)
 
   -- a move of the board is between states
   inside : (q a r : ℕ) → Moves B q a r → (q < B .n) × (r < B .n)

@@ -1,6 +1,6 @@
 -- What `rest` tells: that the table is at rest by document 01's rules, or which position is the lowest that is not.
 use mathlib.Core.Path.{_≡_, refl, sym, ap, _∙_}
-use mathlib.Core.Logic.{_↔_}
+use mathlib.Core.Logic.{_⊎_, inl, inr, _↔_}
 use mathlib.Core.Bool.{Bool, true, false, cond}
 use mathlib.Core.List.{List}
 use Prim.Native.Nat.{ℕ, _≤_, _<_}
@@ -85,3 +85,17 @@ rest-lowest j t v e = go (ltb w P) refl (sym (told j t (accepted .0) (accepted .
           ),
         )
     go false d a = let z : _≡_ {A = ℕ} 1 0 = ap value a in absurd (omega arith)
+
+-- a table with a wrong entry nowhere is at rest, or `rest` names a position
+pub rest-either : (j : Job) (t : List ℕ) → Fitting j t → Capped (gameOf j) t → (resting j t ≡ valued 1) ⊎ ((v : ℕ) × (resting j t ≡ placed v))
+rest-either j t f c = go (ltb w P) refl
+  where
+    P : ℕ
+    P = gameOf j .P
+
+    w : ℕ
+    w = lowest (gameOf j) t
+
+    go : (b : Bool) → ltb w P ≡ b → (resting j t ≡ valued 1) ⊎ ((v : ℕ) × (resting j t ≡ placed v))
+    go true d = inr (w, told j t f c ∙ simp d)
+    go false d = inl (told j t f c ∙ simp d)
