@@ -9,58 +9,57 @@ use mathlib.Core.List.{List}
 use Prim.Native.Nat.{ℕ, _+_, _*_, _≤_, _<_}
 use lib.ListN.{length, getD}
 use borrow.Author.Tests.{ne-eqb}
-use Rattle.games.specs.Game.{asked, at}
+use Rattle.games.specs.Game.{at}
 use Rattle.games.specs.Lift.{Capped, Covers, AtRest, Least}
 use Rattle.automaton.specs.declared.Mode.the-variants.{Delayed, Fair}
 use Rattle.automaton.specs.declared.Refusal.{Refusal}
 use Rattle.automaton.specs.declared.Named.the-variants.{Unknown}
-use Rattle.automaton.specs.declared.Refusal.the-variants.{ModeNumber, TableLength, NotAtRest}
+use Rattle.automaton.specs.declared.Refusal.the-variants.{ModeNumber, TableLength}
 use Rattle.automaton.specs.declared.Automaton.{Automaton}
-use Rattle.automaton.specs.Answer.{valued, placed, numberOf, refused, Fault, none, fault}
+use Rattle.automaton.specs.Answer.{valued, numberOf, refused, Fault, none, fault}
 use Rattle.automaton.specs.Board.{Board, Formed, accepts}
 use Rattle.automaton.specs.Check.{answerOf, automatonFault, limited, checked}
 use Rattle.automaton.specs.Limits.{mostStates, mostLetters, nameOf}
-use Rattle.automaton.proofs.One.{one-result}
-use Rattle.automaton.proofs.Sound.{automaton-line, automaton-to, sound}
 use Rattle.simulation.specs.Answers.{replies}
 use Rattle.simulation.specs.Meaning.{LowestLeast, Brings, ahead, tallyAll, Leaves}
 use Rattle.simulation.specs.Moves.{Moves}
 use Rattle.simulation.specs.Position.{Position, spoiler, duplicator, number, Fits}
 use Rattle.simulation.specs.Rules.{ceiling, game}
 use Rattle.simulation.specs.Won.{Choices, Walks, Answered, WonPair}
-use Rattle.simulation.proofs.Meaning as playing
-use Rattle.simulation.proofs.Relation.{relation-rest, relation-least}
-use Rattle.simulation.proofs.Reply.{has-move, reply-lowest-least}
 use Rattle.arena.specs.Job.{Job, modeOf, gameOf}
 use Rattle.arena.specs.Answers.{ofCounted}
 use Rattle.arena.specs.Refusals.{openFault, Proper, Fitting, sizing, topping}
-use Rattle.arena.proofs.Accepted.{positions-accepted, ceiling-accepted}
-use Rattle.arena.proofs.One.{one-counted}
-use Rattle.arena.proofs.Open.{job-line, open-line}
 use Rattle.table.specs.Answers.{ofCleared, ofLifted, ofRested, ofSettled}
 use Rattle.table.specs.Calls.{clearing, lifting, resting, settling}
-use Rattle.table.proofs.Accepted.{clear-accepted, clear-refused, lift-accepted, lift-refused, rest-accepted, settle-accepted, settle-refused}
-use Rattle.table.proofs.AtRest.{rest-told, rest-lowest, rest-either}
-use Rattle.table.proofs.One.{one-cleared, one-lifted, one-rested, one-settled}
 use Rattle.relation.specs.Answers.{ofRelated, ofReplied}
 use Rattle.relation.specs.Calls.{relating, replying, Answerable}
 use Rattle.relation.specs.Calls as of-relation
-use Rattle.relation.proofs.Accepted.{relation-accepted, relation-refused, reply-accepted, reply-does}
-use Rattle.relation.proofs.One.{one-related, one-replied}
 use Rattle.quotient.specs.Answers.{ofMerged}
 use Rattle.quotient.specs.Calls.{Buffers, buffers, quotienting, written}
 use Rattle.quotient.specs.Calls as of-quotient
+use Rattle.demands.specs.Ends.{answering, Ends, One, TurnsAway}
+use Rattle.demands.specs.Replies.{jobIn, TakesReplies}
+use Rattle.demands.specs.Order.{Call, AllOrderly, after, raised, duePositions}
+-- the proofs
+use Rattle.automaton.proofs.One.{one-result}
+use Rattle.automaton.proofs.Sound.{automaton-line, automaton-to, sound}
+use Rattle.simulation.proofs.Meaning as playing
+use Rattle.simulation.proofs.Relation.{relation-rest, relation-least}
+use Rattle.simulation.proofs.Reply.{has-move, reply-lowest-least}
+use Rattle.arena.proofs.Accepted.{positions-accepted, ceiling-accepted}
+use Rattle.arena.proofs.One.{one-counted}
+use Rattle.arena.proofs.Open.{job-line}
+use Rattle.table.proofs.Accepted.{clear-accepted, clear-refused, lift-accepted, lift-refused, rest-accepted, settle-accepted, settle-refused}
+use Rattle.table.proofs.AtRest.{rest-told, rest-either}
+use Rattle.table.proofs.One.{one-cleared, one-lifted, one-rested, one-settled}
+use Rattle.relation.proofs.Accepted.{relation-accepted, relation-refused, reply-accepted, reply-does}
+use Rattle.relation.proofs.One.{one-related, one-replied}
 use Rattle.quotient.proofs.Accepted.{quotient-accepted, quotient-refused}
 use Rattle.quotient.proofs.One.{one-merged}
-use Rattle.demands.specs.Ends.{answering, Ends, One}
-use Rattle.demands.specs.Replies.{jobIn, TakesReplies}
-use Rattle.demands.proofs.Ends.{limits-accepted, limits-refuses, check-refuses, positions-refuses, ceiling-refuses, rest-refuses, reply-refuses, one}
-use Rattle.demands.proofs.Played.{settled-proper, settled-least, relation-left, takes-heeds}
-use Rattle.demands.specs.Order.{Call, AllOrderly, after, raised, duePositions}
-use Rattle.demands.proofs.Lifted as lifting
-use Rattle.relation.proofs.Tested.{rest-placed}
-use Rattle.relation.proofs.Effects.{relating-restless, replying-restless}
 use Rattle.quotient.proofs.Meaning as merging
+use Rattle.demands.proofs.Ends.{limits-accepted, limits-refuses, check-refuses, positions-refuses, ceiling-refuses, rest-refuses, reply-refuses, turns-away, one}
+use Rattle.demands.proofs.Played.{settled-proper, settled-least, relation-left, takes-heeds}
+use Rattle.demands.proofs.Lifted as lifting
 
 -- ==== Demand 1
 -- "Every call ends properly for every input. A malformed automaton, an unknown mode, a table of wrong length, or not at rest where rest is needed,
@@ -173,23 +172,8 @@ pub rest-means : (j : Job) (t : List ℕ) → (resting j t ≡ valued 1) ↔ (Pr
 rest-means = rest-told
 
 -- and `relation` and `reply` refuse with 12 and that position.
-pub restless-refused : (j : Job) (t : List ℕ) → Fitting j t → Capped (gameOf j) t → ¬ AtRest (gameOf j) t
-    → (v : ℕ) × (v < gameOf j .P) × (at t v < asked (gameOf j) (at t) v) × ((u : ℕ) → u < v → asked (gameOf j) (at t) u ≤ at t u)
-    × (resting j t ≡ placed v)
-    × ((out : List ℕ) → relating j t out ≡ record { answer = refused (NotAtRest v); left = out })
-    × ((u : ℕ) → u < gameOf j .P → replying j t u ≡ refused (NotAtRest v))
-restless-refused j t f c n = ⊎-elim (λ e. absurd (n (rest-told j t .0 e .1))) told (rest-either j t f c)
-  where
-    told : (v : ℕ) × (resting j t ≡ placed v)
-        → (v : ℕ) × (v < gameOf j .P) × (at t v < asked (gameOf j) (at t) v) × ((u : ℕ) → u < v → asked (gameOf j) (at t) u ≤ at t u)
-        × (resting j t ≡ placed v)
-        × ((out : List ℕ) → relating j t out ≡ record { answer = refused (NotAtRest v); left = out })
-        × ((u : ℕ) → u < gameOf j .P → replying j t u ≡ refused (NotAtRest v))
-    told (v, e) =
-        let o = open-line j t .1 f in
-        let r = rest-placed j t o v (sym e) in
-        let l = rest-lowest j t v e in
-        (v, l .0, l .1 .0, l .1 .1, e, λ out. relating-restless j t o out (NotAtRest v) r, λ u h. replying-restless j t o u (NotAtRest v) r h)
+pub restless-refused : (j : Job) (t : List ℕ) → Fitting j t → Capped (gameOf j) t → ¬ AtRest (gameOf j) t → (v : ℕ) × TurnsAway j t v
+restless-refused j t f c n = ⊎-elim (λ e. absurd (n (rest-told j t .0 e .1))) (λ w. (w .0, turns-away j t f (w .0) (w .1))) (rest-either j t f c)
 
 -- ==== Demand 2
 

@@ -6,7 +6,8 @@ use Prim.Native.Nat.{ℕ, _≤_, _<_}
 use lib.ListN.{length}
 use Rattle.games.specs.Game.{at}
 use Rattle.automaton.specs.declared.Mode.{Mode}
-use Rattle.automaton.specs.Answer.{Answer, accepted, valued, Fault, none, fault, firstFault, unless}
+use Rattle.automaton.specs.declared.Refusal.the-variants.{NotAtRest}
+use Rattle.automaton.specs.Answer.{Answer, accepted, valued, placed, Fault, none, fault, firstFault, unless}
 use Rattle.automaton.specs.declared.Automaton.{Automaton}
 use Rattle.automaton.specs.Board.{Board, boardOf}
 use Rattle.automaton.specs.Limits.{mostStates, mostLetters}
@@ -18,12 +19,16 @@ use Rattle.simulation.specs.Answers.{blueMoves, blueReply, turnFault, lostFault
 use Rattle.simulation.specs.Position.{Position, positions, position}
 use Rattle.simulation.specs.Rules.{ceiling}
 use Rattle.arena.specs.Job.{Job, modeOf, gameOf}
-use Rattle.arena.specs.Refusals.{modeFault, jobFault, openFault, sizing, topping}
+use Rattle.arena.specs.Refusals.{modeFault, jobFault, openFault, Fitting, sizing, topping}
+use Rattle.arena.proofs.Open.{open-line}
 use Rattle.table.specs.Calls.{entryFault, positionFault, restless, rested, resting}
 use Rattle.table.proofs.Accepted.{rest-number}
+use Rattle.table.proofs.AtRest.{rest-lowest}
 use Rattle.relation.specs.Calls.{restFault, replying}
+use Rattle.relation.proofs.Tested.{rest-placed}
+use Rattle.relation.proofs.Effects.{relating-restless, replying-restless}
 use Rattle.automaton.specs.Effect.{Effect, Refuses}
-use Rattle.demands.specs.Ends.{answering, One}
+use Rattle.demands.specs.Ends.{answering, One, TurnsAway}
 
 -- a refusal, or what comes after the refusals
 unless-refuses : (f : Fault) (a : Answer) → (a .number ≢ 0 → Refuses tt (answering a)) → unless f a .number ≢ 0 → Refuses tt (answering (unless f a))
@@ -68,3 +73,18 @@ reply-refuses j t v =
 
 pub one : {R X : Type 0} (of : R → Answer) (e : Effect X) → ((r s : R) → of r ≡ of s → r ≡ s) → One of e
 one of e same r s x y p q = (same r s (p .answers ∙ sym (q .answers)), p .leaves ∙ sym (q .leaves))
+
+-- what the calls say of a table whose lowest position not at rest is v
+pub turns-away : (j : Job) (t : List ℕ) → Fitting j t → (v : ℕ) → resting j t ≡ placed v → TurnsAway j t v
+turns-away j t f v e =
+    let o = open-line j t .1 f in
+    let r = rest-placed j t o v (sym e) in
+    let l = rest-lowest j t v e in
+    record {
+      inside = l .0;
+      restless = l .1 .0;
+      lowest = l .1 .1;
+      rest = e;
+      relation = λ out. relating-restless j t o out (NotAtRest v) r;
+      reply = λ u h. replying-restless j t o u (NotAtRest v) r h;
+    }
