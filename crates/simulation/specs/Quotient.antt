@@ -43,6 +43,7 @@ module _ (B : Board) (m : Mode) (t : List ℕ) where
   abbrev pub equal : (q r : ℕ) → Bool
   equal q r = below B m t q r && below B m t r q
 
+  -- the chief of a state, the number of its class, and how many classes there are
   abbrev pub chief : ℕ → ℕ
   chief = chiefBy equal
 
