@@ -1,11 +1,16 @@
 -- Where an arena fits the lent bytes, pairs can be read off the table.
-use mathlib.Core.Path.{_∙_}
+use mathlib.Core.Path.{_≡_, ap, _∙_}
 use mathlib.Core.List.{List, []}
 use Prim.Native.Nat.{ℕ, _*_, _≤_, _<_}
 use native.Mathlib.Nat.{mul-le-mul}
 use native.Mathlib.Omega.{arith}
+use lib.Dec.{ltb}
 use lib.ListN.{length}
-use Rattle.simulation.specs.Position.{layers, pairs, pair}
+use Rattle.games.specs.Game.{at}
+use Rattle.automaton.specs.declared.Mode.{Mode}
+use Rattle.simulation.specs.Answers.{below}
+use Rattle.simulation.specs.Position.{layers, pairs, pair, number}
+use Rattle.simulation.specs.Rules.{beginning}
 use Rattle.simulation.proofs.Limits.{pairs-most}
 use Rattle.simulation.proofs.Position.{positions-are, pair-lt}
 use Rattle.arena.specs.declared.Arena.{Arena}
@@ -20,6 +25,11 @@ seated g marks moves t R = record {
   topped = R .topped ∙ ceiling-moves (g .states) (g .letters) marks moves [] (g .mode);
   seats = omega (arith, R .entries, positions-are (boardIn g marks moves) (g .mode));
 }
+
+-- a pair is below T or not whatever the moves
+pub bare-below : (g : Arena) (marks moves t : List ℕ) (m : Mode) → below (bare g marks) m t ≡ below (boardIn g marks moves) m t
+bare-below g marks moves t m =
+    ap (λ (T : ℕ). λ (q r : ℕ). ltb (at t (number (bare g marks) m (beginning (bare g marks) m q r))) T) (ceiling-moves (g .states) (g .letters) marks [] moves m)
 
 -- ---- the entries of Spoiler's positions
 

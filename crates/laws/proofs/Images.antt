@@ -17,7 +17,7 @@ use Rattle.automaton.specs.Board.{Board, Formed, from, letter, to, Above}
 use Rattle.automaton.proofs.First.{some-is}
 use Rattle.simulation.specs.Moves.{Moves}
 use Rattle.simulation.specs.Rules.{bit}
-use Rattle.simulation.specs.Quotient.{equal, classOf, tripleOf, imageOf, reached, classMoves, quotientOf, Image}
+use Rattle.simulation.specs.Quotient.{equal, classOf, tripleBy, imageOf, reached, classMoves, quotientOf, Image}
 use Rattle.laws.proofs.Classes.{classBy-most}
 use Rattle.laws.proofs.Triples.{having, having-less, Stands, listed-long, listed-at, listed-of}
 
@@ -54,12 +54,12 @@ module _ (B : Board) (m : Mode) (t : List ℕ) where
 
   -- three bytes for each triple that some move becomes
   pub moves-long : length (classMoves B m t) ≡ count (λ x. bit (reached B m t x)) (B .n * B .k * B .n) * 3
-  moves-long = listed-long (reached B m t) (tripleOf B m t) (λ x. refl) (B .n * B .k * B .n)
+  moves-long = listed-long (reached B m t) (tripleBy (B .n) (B .k)) (λ x. refl) (B .n * B .k * B .n)
 
   -- move i of the quotient is the triple of a number that has i such below it
   written : (i : ℕ) → i * 3 + 2 < length (classMoves B m t)
-      → (x : ℕ) × (x < B .n * B .k * B .n) × (reached B m t x ≡ true) × (having (reached B m t) x ≡ i) × Stands (reached B m t) (tripleOf B m t) (B .n * B .k * B .n) i x
-  written = listed-of (reached B m t) (tripleOf B m t) (λ x. refl) (B .n * B .k * B .n)
+      → (x : ℕ) × (x < B .n * B .k * B .n) × (reached B m t x ≡ true) × (having (reached B m t) x ≡ i) × Stands (reached B m t) (tripleBy (B .n) (B .k)) (B .n * B .k * B .n) i x
+  written = listed-of (reached B m t) (tripleBy (B .n) (B .k)) (λ x. refl) (B .n * B .k * B .n)
 
   -- "sorted, each once": strictly ascending
   pub moves-ascend : Formed B → (i : ℕ) → i * 3 + 5 < length (classMoves B m t)
@@ -112,7 +112,7 @@ module _ (B : Board) (m : Mode) (t : List ℕ) where
     image-move c a d (q, r, (j, l, f, g, h), u, v) =
         let (x, y, z) = image-read j l in
         let e = some-is (λ i. eqb (imageOf B m t i) (imageOf B m t j)) (length (B .moves) / 3) .1 (j, omega arith, eq-eqb (imageOf B m t j) (imageOf B m t j) refl) in
-        let (k, s) = listed-at (reached B m t) (tripleOf B m t) (λ x. refl) (B .n * B .k * B .n) (imageOf B m t j) (image-lt j l) e in
+        let (k, s) = listed-at (reached B m t) (tripleBy (B .n) (B .k)) (λ x. refl) (B .n * B .k * B .n) (imageOf B m t j) (image-lt j l) e in
         (having (reached B m t) (imageOf B m t j), k, s .0 ∙ x ∙ ap (classOf B m t) f ∙ u, s .1 ∙ y ∙ g, s .2 ∙ z ∙ ap (classOf B m t) h ∙ v)
 
     -- "the moves with each state replaced by its class"

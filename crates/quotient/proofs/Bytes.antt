@@ -13,7 +13,7 @@ use Rattle.automaton.specs.declared.Mode.{Mode}
 use Rattle.automaton.specs.Board.{Board, Formed, accepts, from, to}
 use Rattle.automaton.specs.First.{some}
 use Rattle.simulation.specs.Rules.{bit}
-use Rattle.simulation.specs.Quotient.{classOf, classCount, classBytes, markOf, classMarks, tripleOf, imageOf, reached, classMoves}
+use Rattle.simulation.specs.Quotient.{classOf, classCount, classBytes, markOf, classMarks, tripleBy, imageOf, reached, classMoves}
 use Rattle.simulation.proofs.Listed.{map-at, listed-length}
 use Rattle.laws.proofs.Images.{class-most}
 use Rattle.quotient.specs.Writing.{markIn, imageIn, mostTriples, Seen, Imaged, triplesIn}
@@ -65,7 +65,7 @@ module _ (B : Board) (m : Mode) (t : List ℕ) where
 
     pub triples-are : (seen : List ℕ) → Seen (B .n) (B .k) (classBytes B m t) (B .moves) (length (B .moves) / 3) seen
         → triplesIn (B .n) (B .k) seen (B .n * B .k * B .n) ≡ classMoves B m t
-    triples-are seen marked = turn-same _ _ (B .n * B .k * B .n) (λ x l. ap (λ (s : Bool). cond s (tripleOf B m t x) []) (here x l))
+    triples-are seen marked = turn-same _ _ (B .n * B .k * B .n) (λ x l. ap (λ (s : Bool). cond s (tripleBy (B .n) (B .k) x) []) (here x l))
       where
         here : (x : ℕ) → x < B .n * B .k * B .n → eqb (getD seen x 0) 1 ≡ reached B m t x
         here x l =

@@ -38,6 +38,22 @@ module _ (equal : ℕ → ℕ → Bool) where
   abbrev pub classBy : ℕ → ℕ
   classBy q = count leads (chiefBy q)
 
+-- ---- marks and moves, by which class each state has
+
+-- "1 if some member accepts": of n states, for class c
+abbrev pub markBy : (n : ℕ) → (class : ℕ → ℕ) → (accepting : ℕ → Bool) → (c : ℕ) → ℕ
+markBy n class accepting c = bit (some (λ q. eqb (class q) c && accepting q) n)
+
+-- A triple (c,a,d) has the number (c·k + a)·n + d, so that numbers ascend as the moves are to: by c, then a, then d.
+abbrev pub tripleBy : (n k x : ℕ) → List ℕ
+tripleBy n k x = x / n / k ∷ x / n % k ∷ x % n ∷ []
+
+-- the number of move i "with each state replaced by its class"
+abbrev pub imageBy : (n k : ℕ) → (class : ℕ → ℕ) → (moves : List ℕ) → (i : ℕ) → ℕ
+imageBy n k class ms i = (class (from ms i) * k + letter ms i) * n + class (to ms i)
+
+-- ---- by a table
+
 module _ (B : Board) (m : Mode) (t : List ℕ) where
   -- "Two states are equal if each is related to the other (001, definition 12)."
   abbrev pub equal : (q r : ℕ) → Bool
@@ -57,10 +73,9 @@ module _ (B : Board) (m : Mode) (t : List ℕ) where
   abbrev pub classBytes : List ℕ
   classBytes = map classOf (ascending 0 (B .n))
 
-  -- ---- "accept marks (n bytes, one a class, 1 if some member accepts)"
-
+  -- "accept marks (n bytes, one a class, 1 if some member accepts)"
   abbrev pub markOf : (c : ℕ) → ℕ
-  markOf c = bit (some (λ q. eqb (classOf q) c && accepts B q) (B .n))
+  markOf = markBy (B .n) classOf (accepts B)
 
   abbrev pub classMarks : List ℕ
   classMarks = map markOf (ascending 0 classCount)
@@ -68,22 +83,16 @@ module _ (B : Board) (m : Mode) (t : List ℕ) where
   abbrev pub markBytes : List ℕ
   markBytes = padded (B .n) classMarks
 
-  -- ---- "the moves with each state replaced by its class, sorted, each once (same length as the input's moves)"
-
-  -- A triple (c,a,d) has the number (c·k + a)·n + d, so that numbers ascend as the moves are to: by c, then a, then d.
-  abbrev pub tripleOf : (x : ℕ) → List ℕ
-  tripleOf x = x / B .n / B .k ∷ x / B .n % B .k ∷ x % B .n ∷ []
-
-  -- the number of move i with each state replaced by its class
+  -- does some move become the triple with this number?
   abbrev pub imageOf : (i : ℕ) → ℕ
-  imageOf i = (classOf (from (B .moves) i) * B .k + letter (B .moves) i) * B .n + classOf (to (B .moves) i)
+  imageOf = imageBy (B .n) (B .k) classOf (B .moves)
 
-  -- does some move become this triple?
   abbrev pub reached : (x : ℕ) → Bool
   reached x = some (λ i. eqb (imageOf i) x) (length (B .moves) / 3)
 
+  -- "the moves with each state replaced by its class, sorted, each once (same length as the input's moves)"
   abbrev pub classMoves : List ℕ
-  classMoves = inTurn (λ x. cond (reached x) (tripleOf x) []) (B .n * B .k * B .n)
+  classMoves = inTurn (λ x. cond (reached x) (tripleBy (B .n) (B .k) x) []) (B .n * B .k * B .n)
 
   abbrev pub moveCount : ℕ
   moveCount = length classMoves / 3

@@ -44,10 +44,10 @@ abbrev classes : tie.After-number → List ℕ
 classes c = c .number .last .1 .1 .1 .0
 
 count-is : (c : tie.After-number) → c .number .result ≡ classCount (board c) (mode c) (table c)
-count-is c = let s = begun c in c .number .ensures .0 ∙ bare-count (s .args .g) (s .args .marks .now) (s .args .moves .now) (table c) (mode c)
+count-is c = let s = begun c in c .number .ensures .0 ∙ bare-count (s .args .g) (s .args .marks .now) (s .args .moves .now) (table c)
 
 classes-are : (c : tie.After-number) → classes c ≡ classBytes (board c) (mode c) (table c)
-classes-are c = let s = begun c in c .number .ensures .1 ∙ bare-bytes (s .args .g) (s .args .marks .now) (s .args .moves .now) (table c) (mode c)
+classes-are c = let s = begun c in c .number .ensures .1 ∙ bare-bytes (s .args .g) (s .args .marks .now) (s .args .moves .now) (table c)
 
 classes-length : (c : tie.After-number) → length (classes c) ≡ board c .n
 classes-length c = ap length (classes-are c) ∙ bytes-length (board c) (mode c) (table c)

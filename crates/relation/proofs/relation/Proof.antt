@@ -147,11 +147,11 @@ returns-5 c =
     let does = both (sym (relating-does j (table d) (faultless r) (out d) (at-rest told) fit)) in (
       ap valued
           (f .fill .ensures .0
-          ∙ bare-related g (j .board .marks) (j .board .moves) (table d) (g .mode)
+          ∙ bare-related g (j .board .marks) (j .board .moves) (table d)
           ∙ ap (λ (h : Arena). related (boardIn h (j .board .marks) (j .board .moves)) (h .mode) (table d)) same)
           ∙ does .0,
       f .fill .ensures .1
-          ∙ bare-relation g (j .board .marks) (j .board .moves) (table d) (g .mode)
+          ∙ bare-relation g (j .board .marks) (j .board .moves) (table d)
           ∙ ap (λ (h : Arena). relation (boardIn h (j .board .marks) (j .board .moves)) (h .mode) (table d)) same
           ∙ does .1,
     )
