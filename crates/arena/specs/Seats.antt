@@ -11,6 +11,7 @@ use Rattle.simulation.specs.Rules.{ceiling}
 use Rattle.arena.specs.declared.Arena.{Arena}
 use Rattle.arena.specs.Arena.{boardIn}
 
+-- the board of an arena and its marks, without moves
 abbrev pub bare : Arena → (marks : List ℕ) → Board
 bare g marks = boardIn g marks []
 

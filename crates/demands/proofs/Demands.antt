@@ -1,6 +1,6 @@
 -- The three demands, each theorem under the tester's words that it renders, and what the quotient merges.
--- They speak of the calls' promises, which are functions: `checked`, `clearing`, `lifting`, `resting`, `settling`, `relating`, `replying` and
--- `quotienting` give, for every input, what a call answers and what it leaves in the buffers lent to it. The code is proved to do that.
+-- They speak of the calls' promises, which are functions: `limited`, `checked`, `sizing`, `topping`, `clearing`, `lifting`, `resting`, `settling`,
+-- `relating`, `replying` and `quotienting` give, for every input, what a call answers and what it leaves in the buffers lent to it. The code is proved to do that.
 -- A job is an automaton, by its board and its start, and the number of a mode.
 use mathlib.Core.Path.{_≡_, refl, sym, ap, _∙_}
 use mathlib.Core.Logic.{_≢_, _↔_, _⊎_, ⊎-elim}

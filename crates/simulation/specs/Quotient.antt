@@ -77,16 +77,18 @@ module _ (B : Board) (m : Mode) (t : List ℕ) where
   abbrev pub markOf : (c : ℕ) → ℕ
   markOf = markBy (B .n) classOf (accepts B)
 
+  -- the marks of the classes, and these with the unused bytes
   abbrev pub classMarks : List ℕ
   classMarks = map markOf (ascending 0 classCount)
 
   abbrev pub markBytes : List ℕ
   markBytes = padded (B .n) classMarks
 
-  -- does some move become the triple with this number?
+  -- the number of the triple that move i becomes
   abbrev pub imageOf : (i : ℕ) → ℕ
   imageOf = imageBy (B .n) (B .k) classOf (B .moves)
 
+  -- does some move become the triple with this number?
   abbrev pub reached : (x : ℕ) → Bool
   reached x = some (λ i. eqb (imageOf i) x) (length (B .moves) / 3)
 
@@ -94,6 +96,7 @@ module _ (B : Board) (m : Mode) (t : List ℕ) where
   abbrev pub classMoves : List ℕ
   classMoves = inTurn (λ x. cond (reached x) (tripleBy (B .n) (B .k) x) []) (B .n * B .k * B .n)
 
+  -- how many moves that are, and these with the unused bytes
   abbrev pub moveCount : ℕ
   moveCount = length classMoves / 3
 
