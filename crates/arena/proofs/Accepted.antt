@@ -7,14 +7,14 @@ use Rattle.automaton.specs.declared.Automaton.{Automaton}
 use Rattle.automaton.specs.declared.Named.the-variants.{Unknown}
 use Rattle.automaton.specs.Answer.{valued, firstFault}
 use Rattle.automaton.specs.Board.{boardOf}
-use Rattle.automaton.specs.Check.{statesFault, lettersFault}
+use Rattle.automaton.specs.Check.{statesFault, lettersFault, modeFault}
 use Rattle.automaton.specs.Limits.{mostStates, mostLetters, nameOf}
 use Rattle.automaton.proofs.Fault.{_then_, end, table-line, unless-number}
-use Rattle.automaton.proofs.Sound.{states-line, letters-line}
+use Rattle.automaton.proofs.Sound.{states-line, letters-line, mode-line}
 use Rattle.simulation.specs.Position.{positions}
 use Rattle.arena.specs.Job.{Job, modeOf, gameOf}
-use Rattle.arena.specs.Refusals.{modeFault, jobFault, Proper, sizing, topping}
-use Rattle.arena.proofs.Open.{mode-line, job-line}
+use Rattle.arena.specs.Refusals.{jobFault, Proper, sizing, topping}
+use Rattle.arena.proofs.Open.{job-line}
 
 pub positions-accepted : (a : Automaton) (mode : ℕ)
     → (sizing a mode .number ≡ 0) ↔ (((0 < a .states) × (a .states ≤ mostStates)) × ((0 < a .letters) × (a .letters ≤ mostLetters)) × (nameOf mode ≢ Unknown))

@@ -3,3 +3,4 @@ pub mod Opening
 pub mod Accepted
 pub mod One
 pub mod Seats
+pub mod Begun

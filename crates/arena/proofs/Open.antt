@@ -1,7 +1,6 @@
 -- What opening an arena tells: which refusal there is, or that there is none and the arena fits the lent bytes.
 use mathlib.Core.Path.{_≡_, refl, sym, ap, _∙_, subst}
-use mathlib.Core.Logic.{_≢_, _↔_, Iff·trans}
-use mathlib.Core.Bool.{false, true≢false}
+use mathlib.Core.Logic.{_≢_, Iff·trans}
 use mathlib.Core.List.{List}
 use Prim.Native.Nat.{ℕ}
 use native.Mathlib.Omega.{arith}
@@ -11,7 +10,6 @@ use borrow.Author.Tests.{eqb-true, eq-eqb, ne-eqb, not-false}
 use Rattle.games.specs.Game.{Game}
 use Rattle.automaton.specs.declared.Mode.{Mode}
 use Rattle.automaton.specs.declared.Mode.the-variants.{Ordinary, Direct, Delayed, Fair}
-use Rattle.automaton.specs.declared.Named.{Named}
 use Rattle.automaton.specs.declared.Named.the-variants.{Known, Unknown}
 use Rattle.automaton.specs.declared.Refusal.{Refusal}
 use Rattle.automaton.specs.declared.Refusal.the-variants.{ModeNumber, TableLength}
@@ -19,13 +17,13 @@ use Rattle.automaton.specs.Answer.{Fault, none, fault}
 use Rattle.automaton.specs.Check.{automatonFault}
 use Rattle.automaton.specs.Limits.{nameOf}
 use Rattle.automaton.proofs.Fault.{Line, fails-line, _then_, end, table-line}
-use Rattle.automaton.proofs.Sound.{automaton-line}
+use Rattle.automaton.proofs.Sound.{automaton-line, mode-line}
 use Rattle.simulation.specs.Rules.{ceiling}
 use Rattle.arena.specs.declared.Arena.{Arena}
 use Rattle.arena.specs.declared.Opened.{Opened}
 use Rattle.arena.specs.declared.Opened.the-variants.{Open, Shut}
-use Rattle.arena.specs.Job.{Job, isUnknown, modeOf, gameOf}
-use Rattle.arena.specs.Refusals.{modeFault, jobFault, lengthFault, openFault, Proper, Fitting}
+use Rattle.arena.specs.Job.{Job, modeOf, gameOf}
+use Rattle.arena.specs.Refusals.{jobFault, lengthFault, openFault, Proper, Fitting}
 use Rattle.arena.specs.Arena.{arenaOf, gameIn, Ready, openedBy, entered, opened}
 
 -- ---- reading an opened arena back
@@ -57,13 +55,6 @@ by-shut none h r e = absurd (open-not-shut e)
 by-shut (fault s) h r e = ap fault (ap (refusalIn s) e)
 
 -- ---- refusals 1 to 8
-
-known : (n : Named) → (isUnknown n ≡ false) ↔ (n ≢ Unknown)
-known (Known m) = (λ e d. absurd (true≢false (sym (ap isUnknown d))), λ e. refl)
-known Unknown = (λ e. absurd (true≢false e), λ n. absurd (n refl))
-
-pub mode-line : (mode : ℕ) → Line (modeFault mode) (nameOf mode ≢ Unknown)
-mode-line mode = fails-line (isUnknown (nameOf mode)) _ ModeNumber (known (nameOf mode))
 
 pub job-line : (j : Job) → Line (jobFault j) (Proper j)
 job-line j =

@@ -1,5 +1,4 @@
 -- What a call is given beside the table: an automaton and a mode, and so a game.
-use mathlib.Core.Bool.{Bool, true, false}
 use mathlib.Core.List.{List}
 use Prim.Native.Nat.{ℕ}
 use Rattle.games.specs.Game.{Game}
@@ -21,11 +20,6 @@ pub record Job : Type 0 where
 -- the job of an automaton's record, with the marks and the moves lent beside it
 abbrev pub jobOf : Automaton → (marks moves : List ℕ) → (mode : ℕ) → Job
 jobOf a marks moves mode = record { board = boardOf a marks moves; start = a .start; mode = mode }
-
--- has no mode this name?
-abbrev pub isUnknown : Named → Bool
-isUnknown (Known m) = false
-isUnknown Unknown = true
 
 -- A number that no mode has is refused before its mode is asked for: any mode stands for it.
 abbrev pub modeIn : Named → Mode

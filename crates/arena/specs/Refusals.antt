@@ -9,18 +9,14 @@ use lib.ListN.{length}
 use Rattle.games.specs.Game.{Game}
 use Rattle.automaton.specs.declared.Automaton.{Automaton}
 use Rattle.automaton.specs.declared.Named.the-variants.{Unknown}
-use Rattle.automaton.specs.declared.Refusal.the-variants.{ModeNumber, TableLength}
+use Rattle.automaton.specs.declared.Refusal.the-variants.{TableLength}
 use Rattle.automaton.specs.Answer.{Answer, valued, Fault, fails, firstFault, unless}
 use Rattle.automaton.specs.Effect.{Effect, does}
 use Rattle.automaton.specs.Board.{boardOf, Formed}
-use Rattle.automaton.specs.Check.{statesFault, lettersFault, automatonFault}
+use Rattle.automaton.specs.Check.{statesFault, lettersFault, automatonFault, modeFault}
 use Rattle.automaton.specs.Limits.{nameOf}
 use Rattle.simulation.specs.Position.{positions}
-use Rattle.arena.specs.Job.{Job, isUnknown, modeOf, gameOf}
-
--- 8: "mode above 3"
-abbrev pub modeFault : (mode : ℕ) → Fault
-modeFault mode = fails (isUnknown (nameOf mode)) ModeNumber
+use Rattle.arena.specs.Job.{Job, modeOf, gameOf}
 
 -- 1 to 8
 abbrev pub jobFault : Job → Fault

@@ -11,7 +11,7 @@ use Rattle.automaton.proofs.Fault.{refusal-numbered, Line, found}
 -- an answer, and a call, unless something is at fault
 pub unless-also : (f : Fault) (a : Answer) (P Q : Type 0) → Line f P → (a .number ≡ 0) ↔ Q → (unless f a .number ≡ 0) ↔ (P × Q)
 unless-also none a P Q l q = (λ z. (l .0 refl, q .0 z), λ h. q .1 (h .1))
-unless-also (fault r) a P Q l q = (λ z. absurd (omega (arith, refusal-numbered r)), λ h. absurd (found (l .1 (h .0))))
+unless-also (fault r) a P Q l q = (λ z. absurd (omega (arith, refusal-numbered r .0)), λ h. absurd (found (l .1 (h .0))))
 
 -- an answer that names no refusal
 pub always : (a : Answer) → a .number ≡ 0 → (a .number ≡ 0) ↔ Unit {0}

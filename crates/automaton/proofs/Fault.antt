@@ -10,27 +10,30 @@ use borrow.Author.Tests.{ltb-false, le-ltb}
 use Rattle.automaton.specs.Answer.{Answer, numberOf, Fault, none, fault, fails, failsAt, firstFault, unless}
 use Rattle.automaton.specs.First.{first}
 use Rattle.automaton.specs.declared.Refusal.{Refusal}
-use Rattle.automaton.specs.declared.Refusal.the-variants.{States, Letters, Marks, Start, Bytes, Outside, Unsorted, ModeNumber, TableLength, AboveCeiling, PositionNumber, NotAtRest, SpoilerPosition, LostPosition, NoMove, OutputLength}
+use Rattle.automaton.specs.declared.Refusal.the-variants.{States, Letters, Marks, Start, Bytes, Outside, Unsorted, ModeNumber, TableLength, AboveCeiling, PositionNumber, NotAtRest, SpoilerPosition, LostPosition, NoMove, OutputLength, LineForm, ProgramLimits, TooLong}
 use Rattle.automaton.proofs.First.{first-lowest, first-none}
 
--- no refusal has the number 0
-pub refusal-numbered : (r : Refusal) → 0 < numberOf r
-refusal-numbered States = omega arith
-refusal-numbered Letters = omega arith
-refusal-numbered (Marks i) = omega arith
-refusal-numbered Start = omega arith
-refusal-numbered Bytes = omega arith
-refusal-numbered (Outside i) = omega arith
-refusal-numbered (Unsorted i) = omega arith
-refusal-numbered ModeNumber = omega arith
-refusal-numbered TableLength = omega arith
-refusal-numbered (AboveCeiling i) = omega arith
-refusal-numbered PositionNumber = omega arith
-refusal-numbered (NotAtRest v) = omega arith
-refusal-numbered SpoilerPosition = omega arith
-refusal-numbered LostPosition = omega arith
-refusal-numbered NoMove = omega arith
-refusal-numbered OutputLength = omega arith
+-- the refusals have numbers from 1 to 22
+pub refusal-numbered : (r : Refusal) → (0 < numberOf r) × (numberOf r ≤ 22)
+refusal-numbered States = (omega arith, omega arith)
+refusal-numbered Letters = (omega arith, omega arith)
+refusal-numbered (Marks i) = (omega arith, omega arith)
+refusal-numbered Start = (omega arith, omega arith)
+refusal-numbered Bytes = (omega arith, omega arith)
+refusal-numbered (Outside i) = (omega arith, omega arith)
+refusal-numbered (Unsorted i) = (omega arith, omega arith)
+refusal-numbered ModeNumber = (omega arith, omega arith)
+refusal-numbered TableLength = (omega arith, omega arith)
+refusal-numbered (AboveCeiling i) = (omega arith, omega arith)
+refusal-numbered PositionNumber = (omega arith, omega arith)
+refusal-numbered (NotAtRest v) = (omega arith, omega arith)
+refusal-numbered SpoilerPosition = (omega arith, omega arith)
+refusal-numbered LostPosition = (omega arith, omega arith)
+refusal-numbered NoMove = (omega arith, omega arith)
+refusal-numbered OutputLength = (omega arith, omega arith)
+refusal-numbered (LineForm line) = (omega arith, omega arith)
+refusal-numbered ProgramLimits = (omega arith, omega arith)
+refusal-numbered TooLong = (omega arith, omega arith)
 
 -- a line of the table that finds no fault exactly if P holds
 abbrev pub Line : Fault → Type 0 → Type 0
@@ -73,6 +76,16 @@ table-line (_then_ {f} {fs} {P} {Q} l t) = go f l (table-line t)
     go none r q = (λ e. (r .0 refl, q .0 e), λ h. q .1 (h .1))
     go (fault x) r q = (λ e. absurd (found e), λ h. absurd (found (r .1 (h .0))))
 
+-- each of its lines finds none
+abbrev pub AllNone : List Fault → Type 0
+AllNone [] = Unit {0}
+AllNone (f ∷ fs) = (f ≡ none) × AllNone fs
+
+pub all-none : (fs : List Fault) → (firstFault fs ≡ none) ↔ AllNone fs
+all-none [] = (λ e. tt, λ a. refl)
+all-none (none ∷ fs) = (λ e. (refl, all-none fs .0 e), λ a. all-none fs .1 (a .1))
+all-none (fault r ∷ fs) = (λ e. absurd (found e), λ a. absurd (found (a .0)))
+
 -- after lines that find no fault, and after one that finds one
 pub faults-passed : (fs gs : List Fault) → firstFault fs ≡ none → firstFault (fs ++ gs) ≡ firstFault gs
 faults-passed [] gs e = refl
@@ -90,35 +103,36 @@ pub unless-number : (f : Fault) (a : Answer) → a .number ≡ 0 → (unless f a
 unless-number none a z = (λ e. refl, λ e. z)
 unless-number (fault x) a z = (λ e. absurd (omega (arith, refusal-numbered x)), λ e. absurd (found e))
 
--- ---- which numbers the lines of a table have
+-- ---- which numbers, or which places, the lines of a table have
 
--- what a line finds has a number up to k
-abbrev pub UpTo : (k : ℕ) → Fault → Type 0
-UpTo k f = (r : Refusal) → f ≡ fault r → numberOf r ≤ k
+module _ (of : Refusal → ℕ) where
+  -- the number, or the place, of what a line finds is at most k
+  abbrev pub UpTo : (k : ℕ) → Fault → Type 0
+  UpTo k f = (r : Refusal) → f ≡ fault r → of r ≤ k
 
-pub none-to : (k : ℕ) → UpTo k none
-none-to k r e = absurd (found (sym e))
+  pub none-to : (k : ℕ) → UpTo k none
+  none-to k r e = absurd (found (sym e))
 
-pub fault-to : (k : ℕ) (r : Refusal) → numberOf r ≤ k → UpTo k (fault r)
-fault-to k r h s e = let same : numberOf r ≡ numberOf s = ap (numbered 0) e in omega arith
-  where
-    numbered : ℕ → Fault → ℕ
-    numbered z none = z
-    numbered z (fault x) = numberOf x
+  pub fault-to : (k : ℕ) (r : Refusal) → of r ≤ k → UpTo k (fault r)
+  fault-to k r h s e = let same : of r ≡ of s = ap (found-by 0) e in omega arith
+    where
+      found-by : ℕ → Fault → ℕ
+      found-by z none = z
+      found-by z (fault x) = of x
 
-pub fails-to : (k : ℕ) (b : Bool) (r : Refusal) → numberOf r ≤ k → UpTo k (fails b r)
-fails-to k true r h = fault-to k r h
-fails-to k false r h = none-to k
+  pub fails-to : (k : ℕ) (b : Bool) (r : Refusal) → of r ≤ k → UpTo k (fails b r)
+  fails-to k true r h = fault-to k r h
+  fails-to k false r h = none-to k
 
-pub failsAt-to : (k : ℕ) (r : ℕ → Refusal) (p : ℕ → Bool) (c : ℕ) → ((i : ℕ) → numberOf (r i) ≤ k) → UpTo k (failsAt r p c)
-failsAt-to k r p c h = fails-to k (ltb (first p 0 c) c) (r (first p 0 c)) (h (first p 0 c))
+  pub failsAt-to : (k : ℕ) (r : ℕ → Refusal) (p : ℕ → Bool) (c : ℕ) → ((i : ℕ) → i ≤ c → of (r i) ≤ k) → UpTo k (failsAt r p c)
+  failsAt-to k r p c h = fails-to k (ltb (first p 0 c) c) (r (first p 0 c)) (h (first p 0 c) (omega (arith, first-lowest p 0 c .most)))
 
--- all lines of a table
-abbrev pub AllTo : (k : ℕ) → List Fault → Type 0
-AllTo k [] = Unit {0}
-AllTo k (f ∷ fs) = UpTo k f × AllTo k fs
+  -- all lines of a table
+  abbrev pub AllTo : (k : ℕ) → List Fault → Type 0
+  AllTo k [] = Unit {0}
+  AllTo k (f ∷ fs) = UpTo k f × AllTo k fs
 
-pub table-to : (k : ℕ) (fs : List Fault) → AllTo k fs → UpTo k (firstFault fs)
-table-to k [] a = none-to k
-table-to k (none ∷ fs) a = table-to k fs (a .1)
-table-to k (fault r ∷ fs) a = a .0
+  pub table-to : (k : ℕ) (fs : List Fault) → AllTo k fs → UpTo k (firstFault fs)
+  table-to k [] a = none-to k
+  table-to k (none ∷ fs) a = table-to k fs (a .1)
+  table-to k (fault r ∷ fs) a = a .0

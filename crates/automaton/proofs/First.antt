@@ -1,11 +1,13 @@
 -- The laws of `first`: one step on, where it lies, and what is false before it and true at it. And the law of `some`.
 use mathlib.Core.Path.{_≡_, refl, sym, ap, _∙_}
 use mathlib.Core.Logic.{_↔_}
-use mathlib.Core.Bool.{Bool, true, false, _||_, cond, true≢false, false≢true}
+use mathlib.Core.Bool.{Bool, true, false, _&&_, _||_, not, cond, true≢false, false≢true}
 use Prim.Native.Nat.{ℕ, zero, suc, _+_, _-_, _≤_, _<_}
 use native.Mathlib.Decide.{ℕ-discrete}
 use native.Mathlib.Numerals.{add-one}
 use native.Mathlib.Omega.{arith}
+use borrow.Author.Tests.{eq-eqb, ne-eqb}
+use lib.Dec.{eqb}
 use Rattle.automaton.specs.First.{first, some}
 
 -- w is the first of the c numbers from v on that has p, and v + c if none has
@@ -65,6 +67,22 @@ module _ (p : ℕ → Bool) where
           let b : first p v c < v + c = omega (arith, r .most) in
           absurd (true≢false (sym (r .here b) ∙ n (first p v c) (r .least) b))
 
+  -- the first of one number more
+  pub first-more : (v c : ℕ) → first p v (suc c) ≡ cond (eqb (first p v c) (v + c) && not (p (v + c))) (suc (v + c)) (first p v c)
+  unfolding first
+  first-more v zero = go (p v) refl
+    where
+      go : (s : Bool) → p v ≡ s → cond s v (suc v) ≡ cond (eqb v (v + 0) && not (p (v + 0))) (suc (v + 0)) v
+      go true e = let z : v + 0 ≡ v = omega arith in simp (z, e, eq-eqb v v refl)
+      go false e = let z : v + 0 ≡ v = omega arith in simp (z, e, eq-eqb v v refl)
+  first-more v (suc c) = go (p v) refl (first-more (suc v) c)
+    where
+      go : (s : Bool) → p v ≡ s
+          → first p (suc v) (suc c) ≡ cond (eqb (first p (suc v) c) (suc v + c) && not (p (suc v + c))) (suc (suc v + c)) (first p (suc v) c)
+          → cond s v (first p (suc v) (suc c)) ≡ cond (eqb (cond s v (first p (suc v) c)) (v + suc c) && not (p (v + suc c))) (suc (v + suc c)) (cond s v (first p (suc v) c))
+      go true e r = let n : eqb v (v + suc c) ≡ false = ne-eqb v (v + suc c) (λ z. omega arith) in simp n
+      go false e r = let z : v + suc c ≡ suc v + c = omega arith in simp z r
+
   -- `some` says that there is one
   pub some-is : (c : ℕ) → (some p c ≡ true) ↔ ((i : ℕ) × (i < c) × (p i ≡ true))
   some-is zero = (λ e. absurd (false≢true e), λ k. absurd (omega (arith, k .1)))
@@ -80,3 +98,11 @@ module _ (p : ℕ → Bool) where
               at : Dec (i ≡ c) → i < c
               at (yes e) = absurd (true≢false (sym h ∙ ap p e ∙ d))
               at (no n) = omega arith
+
+-- two properties that agree on a stretch have the same first there
+pub first-same : (p p′ : ℕ → Bool) (v c : ℕ) → ((i : ℕ) → v ≤ i → i < v + c → p i ≡ p′ i) → first p v c ≡ first p′ v c
+unfolding first
+first-same p p′ v zero e = refl
+first-same p p′ v (suc c) e =
+    ap (λ (s : Bool). cond s v (first p (suc v) c)) (e v (omega arith) (omega arith)) ∙
+    ap (cond (p′ v) v) (first-same p p′ (suc v) c (λ i l k. e i (omega arith) (omega arith)))

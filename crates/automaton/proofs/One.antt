@@ -1,34 +1,39 @@
 -- An answer leaves no choice: a refusal is told by its number and place, and two results of `check` with the same answer are the same.
 use mathlib.Core.Path.{_≡_, refl, sym, ap, _∙_}
-use Prim.Native.Nat.{ℕ, zero, suc}
+use mathlib.Core.Bool.{cond}
+use Prim.Native.Nat.{ℕ}
 use native.Mathlib.Omega.{arith}
+use lib.Dec.{eqb}
 use Rattle.automaton.specs.Answer.{Answer, accepted, refused, numberOf, placeOf, Fault, none, fault, unless}
 use Rattle.automaton.specs.Check.{answerOf}
 use Rattle.automaton.specs.declared.Refusal.{Refusal}
-use Rattle.automaton.specs.declared.Refusal.the-variants.{States, Letters, Marks, Start, Bytes, Outside, Unsorted, ModeNumber, TableLength, AboveCeiling, PositionNumber, NotAtRest, SpoilerPosition, LostPosition, NoMove, OutputLength}
+use Rattle.automaton.specs.declared.Refusal.the-variants.{States, Letters, Marks, Start, Bytes, Outside, Unsorted, ModeNumber, TableLength, AboveCeiling, PositionNumber, NotAtRest, SpoilerPosition, LostPosition, NoMove, OutputLength, LineForm, ProgramLimits, TooLong}
 use Rattle.automaton.specs.declared.Checked.{Checked}
 use Rattle.automaton.specs.declared.Checked.the-variants.{Sound, Refused}
 use Rattle.automaton.proofs.Fault.{refusal-numbered, unless-number}
 
 -- the refusal with a given number and place, and any for a number that none has
 refusalAt : (number place : ℕ) → Refusal
-refusalAt zero p = States
-refusalAt (suc zero) p = States
-refusalAt (suc (suc zero)) p = Letters
-refusalAt (suc (suc (suc zero))) p = Marks p
-refusalAt (suc (suc (suc (suc zero)))) p = Start
-refusalAt (suc (suc (suc (suc (suc zero))))) p = Bytes
-refusalAt (suc (suc (suc (suc (suc (suc zero)))))) p = Outside p
-refusalAt (suc (suc (suc (suc (suc (suc (suc zero))))))) p = Unsorted p
-refusalAt (suc (suc (suc (suc (suc (suc (suc (suc zero)))))))) p = ModeNumber
-refusalAt (suc (suc (suc (suc (suc (suc (suc (suc (suc zero))))))))) p = TableLength
-refusalAt (suc (suc (suc (suc (suc (suc (suc (suc (suc (suc zero)))))))))) p = AboveCeiling p
-refusalAt (suc (suc (suc (suc (suc (suc (suc (suc (suc (suc (suc zero))))))))))) p = PositionNumber
-refusalAt (suc (suc (suc (suc (suc (suc (suc (suc (suc (suc (suc (suc zero)))))))))))) p = NotAtRest p
-refusalAt (suc (suc (suc (suc (suc (suc (suc (suc (suc (suc (suc (suc (suc zero))))))))))))) p = SpoilerPosition
-refusalAt (suc (suc (suc (suc (suc (suc (suc (suc (suc (suc (suc (suc (suc (suc zero)))))))))))))) p = LostPosition
-refusalAt (suc (suc (suc (suc (suc (suc (suc (suc (suc (suc (suc (suc (suc (suc (suc zero))))))))))))))) p = NoMove
-refusalAt (suc (suc (suc (suc (suc (suc (suc (suc (suc (suc (suc (suc (suc (suc (suc (suc n)))))))))))))))) p = OutputLength
+refusalAt n p =
+    cond (eqb n 1) States
+    (cond (eqb n 2) Letters
+    (cond (eqb n 3) (Marks p)
+    (cond (eqb n 4) Start
+    (cond (eqb n 5) Bytes
+    (cond (eqb n 6) (Outside p)
+    (cond (eqb n 7) (Unsorted p)
+    (cond (eqb n 8) ModeNumber
+    (cond (eqb n 9) TableLength
+    (cond (eqb n 10) (AboveCeiling p)
+    (cond (eqb n 11) PositionNumber
+    (cond (eqb n 12) (NotAtRest p)
+    (cond (eqb n 13) SpoilerPosition
+    (cond (eqb n 14) LostPosition
+    (cond (eqb n 15) NoMove
+    (cond (eqb n 16) OutputLength
+    (cond (eqb n 20) (LineForm p)
+    (cond (eqb n 21) ProgramLimits
+    TooLong)))))))))))))))))
 
 refusalAt-is : (r : Refusal) → refusalAt (numberOf r) (placeOf r) ≡ r
 unfolding refusalAt
@@ -48,12 +53,15 @@ refusalAt-is SpoilerPosition = refl
 refusalAt-is LostPosition = refl
 refusalAt-is NoMove = refl
 refusalAt-is OutputLength = refl
+refusalAt-is (LineForm line) = refl
+refusalAt-is ProgramLimits = refl
+refusalAt-is TooLong = refl
 
 pub one-refusal : (r s : Refusal) → refused r ≡ refused s → r ≡ s
 one-refusal r s e = sym (refusalAt-is r) ∙ ap (λ (a : Answer). refusalAt (a .number) (a .place)) e ∙ refusalAt-is s
 
 pub refused-not : (r : Refusal) (a : Answer) → a .number ≡ 0 → refused r ≡ a → ⊥
-refused-not r a z e = let n : numberOf r ≡ a .number = ap (λ (x : Answer). x .number) e in omega (arith, refusal-numbered r)
+refused-not r a z e = let n : numberOf r ≡ a .number = ap (λ (x : Answer). x .number) e in omega (arith, refusal-numbered r .0)
 
 -- what was at fault, from the answer of a call
 pub unless-refused : (f : Fault) (a : Answer) (r : Refusal) → a .number ≡ 0 → refused r ≡ unless f a → f ≡ fault r

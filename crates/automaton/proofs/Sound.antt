@@ -1,21 +1,30 @@
 -- `checked` answers number 0 exactly for a well-formed automaton whose start is one of its states.
-use mathlib.Core.Path.{_≡_, refl, ap}
-use mathlib.Core.Logic.{_⊎_, inl, inr, _↔_, Iff·trans}
+use mathlib.Core.Path.{_≡_, refl, sym, ap}
+use mathlib.Core.Logic.{_≢_, _⊎_, inl, inr, _↔_, Iff·trans}
 use mathlib.Core.Bool.{Bool, true, false, _&&_, _||_, not, cond, true≢false, false≢true, and-eq-true-iff}
 use mathlib.Core.List.{List, [], _∷_}
 use Prim.Native.Nat.{ℕ, zero, suc, _+_, _*_, _/_, _%_, _≤_, _<_}
 use native.Mathlib.Omega.{arith}
 use lib.Dec.{eqb, ltb, leb}
 use lib.ListN.{length, getD}
-use borrow.Author.Tests.{ltb-true, ltb-false, leb-false, eqb-true, not-false, lt-ltb, le-ltb, lt-leb, eq-eqb}
-use Rattle.automaton.specs.Answer.{Fault, none, fault, fails, failsAt, firstFault, accepted}
+use borrow.Author.Tests.{ltb-true, ltb-false, leb-false, eqb-true, not-false, lt-ltb, le-ltb, lt-leb, eq-eqb, le-leb}
+use Rattle.automaton.specs.Answer.{numberOf, Fault, none, fault, fails, failsAt, firstFault, accepted}
 use Rattle.automaton.specs.Board.{Board, Formed, from, letter, to, above, Above, outside, unsorted}
-use Rattle.automaton.specs.Check.{high, statesFault, lettersFault, faults, automatonFault, checked}
-use Rattle.automaton.specs.Limits.{mostStates, mostLetters}
-use Rattle.automaton.specs.declared.Refusal.the-variants.{States, Letters, Marks, Start, Bytes, Outside, Unsorted}
+use Rattle.automaton.specs.Check.{high, statesFault, lettersFault, modeFault, faults, automatonFault, checked}
+use Rattle.automaton.specs.Limits.{mostStates, mostLetters, nameOf, isUnknown}
+use Rattle.automaton.specs.declared.Named.{Named}
+use Rattle.automaton.specs.declared.Named.the-variants.{Known, Unknown}
+use Rattle.automaton.specs.declared.Refusal.the-variants.{States, Letters, Marks, Start, Bytes, Outside, Unsorted, ModeNumber}
 use Rattle.automaton.proofs.Fault.{Line, always-line, fails-line, failsAt-line, _then_, end, table-line, unless-number, UpTo, fault-to, fails-to, failsAt-to, table-to}
 
 -- ---- what each test says
+
+pub leb-not : (a b : ℕ) → leb a b ≡ not (ltb b a)
+leb-not a b = go (ltb b a) refl
+  where
+    go : (s : Bool) → ltb b a ≡ s → leb a b ≡ not s
+    go true e = lt-leb a b (ltb-true b a e)
+    go false e = le-leb a b (ltb-false b a e)
 
 range : (n m : ℕ) → ((ltb n 1 || ltb m n) ≡ false) ↔ ((0 < n) × (n ≤ m))
 range n m = (λ e. go (ltb n 1) refl e, λ h. simp (le-ltb n 1 (h .0), le-ltb m n (h .1)))
@@ -103,6 +112,13 @@ module _ (ms : List ℕ) where
       back a zero h = refl
       back a (suc i) h = one i .1 (a i (omega arith))
 
+known : (n : Named) → (isUnknown n ≡ false) ↔ (n ≢ Unknown)
+known (Known m) = (λ e d. absurd (true≢false (sym (ap isUnknown d))), λ e. refl)
+known Unknown = (λ e. absurd (true≢false e), λ n. absurd (n refl))
+
+pub mode-line : (mode : ℕ) → Line (modeFault mode) (nameOf mode ≢ Unknown)
+mode-line mode = fails-line (isUnknown (nameOf mode)) _ ModeNumber (known (nameOf mode))
+
 -- ---- all of them
 
 pub limits-line : (n k : ℕ) → Line (firstFault (statesFault n ∷ lettersFault k ∷ [])) (((0 < n) × (n ≤ mostStates)) × ((0 < k) × (k ≤ mostLetters)))
@@ -144,22 +160,22 @@ unfolding checked
 sound B start = Iff·trans (unless-number (automatonFault B start) accepted refl) (automaton-line B start)
 
 -- the refusals of `check` are those from 1 to 7
-pub automaton-to : (B : Board) (start : ℕ) → UpTo 7 (automatonFault B start)
+pub automaton-to : (B : Board) (start : ℕ) → UpTo numberOf 7 (automatonFault B start)
 automaton-to B start =
-    table-to 7 (faults B start) (
-      fails-to 7 (ltb (B .n) 1 || ltb mostStates (B .n)) States (omega arith),
+    table-to numberOf 7 (faults B start) (
+      fails-to numberOf 7 (ltb (B .n) 1 || ltb mostStates (B .n)) States (omega arith),
       (
-        fails-to 7 (ltb (B .k) 1 || ltb mostLetters (B .k)) Letters (omega arith),
+        fails-to numberOf 7 (ltb (B .k) 1 || ltb mostLetters (B .k)) Letters (omega arith),
         (
-          either (eqb (length (B .marks)) (B .n)) (failsAt-to 7 Marks (high (B .marks)) (B .n) (λ i. omega arith)) (fault-to 7 (Marks (B .n)) (omega arith)),
+          either (eqb (length (B .marks)) (B .n)) (failsAt-to numberOf 7 Marks (high (B .marks)) (B .n) (λ i l. omega arith)) (fault-to numberOf 7 (Marks (B .n)) (omega arith)),
           (
-            fails-to 7 (leb (B .n) start) Start (omega arith),
+            fails-to numberOf 7 (leb (B .n) start) Start (omega arith),
             (
-              fails-to 7 (not (eqb (length (B .moves) % 3) 0)) Bytes (omega arith),
+              fails-to numberOf 7 (not (eqb (length (B .moves) % 3) 0)) Bytes (omega arith),
               (
-                failsAt-to 7 Outside (outside (B .n) (B .k) (B .moves)) (length (B .moves) / 3) (λ i. omega arith),
+                failsAt-to numberOf 7 Outside (outside (B .n) (B .k) (B .moves)) (length (B .moves) / 3) (λ i l. omega arith),
                 (
-                  failsAt-to 7 Unsorted (unsorted (B .moves)) (length (B .moves) / 3) (λ i. omega arith),
+                  failsAt-to numberOf 7 Unsorted (unsorted (B .moves)) (length (B .moves) / 3) (λ i l. omega arith),
                   tt,
                 ),
               ),
@@ -169,6 +185,6 @@ automaton-to B start =
       ),
     )
   where
-    either : (b : Bool) {f g : Fault} → UpTo 7 f → UpTo 7 g → UpTo 7 (cond b f g)
+    either : (b : Bool) {f g : Fault} → UpTo numberOf 7 f → UpTo numberOf 7 g → UpTo numberOf 7 (cond b f g)
     either true p q = p
     either false p q = q

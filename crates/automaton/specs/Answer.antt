@@ -6,9 +6,9 @@ use lib.Dec.{ltb}
 use lib.ListN.{getD}
 use Rattle.automaton.specs.First.{first}
 use Rattle.automaton.specs.declared.Refusal.{Refusal}
-use Rattle.automaton.specs.declared.Refusal.the-variants.{States, Letters, Marks, Start, Bytes, Outside, Unsorted, ModeNumber, TableLength, AboveCeiling, PositionNumber, NotAtRest, SpoilerPosition, LostPosition, NoMove, OutputLength}
+use Rattle.automaton.specs.declared.Refusal.the-variants.{States, Letters, Marks, Start, Bytes, Outside, Unsorted, ModeNumber, TableLength, AboveCeiling, PositionNumber, NotAtRest, SpoilerPosition, LostPosition, NoMove, OutputLength, LineForm, ProgramLimits, TooLong}
 
--- A number, a place and three values; a call that names fewer values has 0 for the others.
+-- A number, a place and values; a call that names fewer than three values has 0 for the others.
 pub record Answer : Type 0 where
   pub number : ℕ
   pub place : ℕ
@@ -48,6 +48,9 @@ numberOf SpoilerPosition = 13
 numberOf LostPosition = 14
 numberOf NoMove = 15
 numberOf OutputLength = 16
+numberOf (LineForm line) = 20
+numberOf ProgramLimits = 21
+numberOf TooLong = 22
 
 abbrev pub placeOf : Refusal → ℕ
 placeOf States = 0
@@ -66,6 +69,9 @@ placeOf SpoilerPosition = 0
 placeOf LostPosition = 0
 placeOf NoMove = 0
 placeOf OutputLength = 0
+placeOf (LineForm line) = line
+placeOf ProgramLimits = 0
+placeOf TooLong = 0
 
 -- "Every refused call returns its number, a place and values 0"
 abbrev pub refused : Refusal → Answer

@@ -1,4 +1,4 @@
--- "Check an automaton": refusals 1 to 7, in the words of document 01's table.
+-- "Check an automaton": refusals 1 to 7, and 8 beside them, in the words of document 01's table.
 use mathlib.Core.Bool.{Bool, _||_, not, cond}
 use mathlib.Core.List.{List, [], _∷_}
 use Prim.Native.Nat.{ℕ, _/_, _%_}
@@ -6,8 +6,8 @@ use lib.Dec.{eqb, ltb, leb}
 use lib.ListN.{length, getD}
 use Rattle.automaton.specs.Answer.{Answer, accepted, refused, Fault, fault, fails, failsAt, firstFault, unless}
 use Rattle.automaton.specs.Board.{Board, outside, unsorted}
-use Rattle.automaton.specs.Limits.{mostStates, mostLetters}
-use Rattle.automaton.specs.declared.Refusal.the-variants.{States, Letters, Marks, Start, Bytes, Outside, Unsorted}
+use Rattle.automaton.specs.Limits.{mostStates, mostLetters, nameOf, isUnknown}
+use Rattle.automaton.specs.declared.Refusal.the-variants.{States, Letters, Marks, Start, Bytes, Outside, Unsorted, ModeNumber}
 use Rattle.automaton.specs.declared.Checked.{Checked}
 use Rattle.automaton.specs.declared.Checked.the-variants.{Sound, Refused}
 
@@ -27,6 +27,11 @@ lettersFault k = fails (ltb k 1 || ltb mostLetters k) Letters
 abbrev pub marksFault : Board → Fault
 marksFault B = cond (eqb (length (B .marks)) (B .n)) (failsAt Marks (high (B .marks)) (B .n)) (fault (Marks (B .n)))
 
+-- 8: "mode above 3"
+abbrev pub modeFault : (mode : ℕ) → Fault
+modeFault mode = fails (isUnknown (nameOf mode)) ModeNumber
+
+-- 1 to 7
 abbrev pub faults : Board → (start : ℕ) → List Fault
 faults B start =
     statesFault (B .n)

@@ -1,5 +1,6 @@
 -- The limits of an automaton and the numbers of the modes. The code has them as constants of `Automaton` and `Mode`;
 -- the promises of `check` and `Mode::named` hold the two together.
+use mathlib.Core.Bool.{Bool, true, false}
 use Prim.Native.Nat.{ℕ, zero, suc}
 use Rattle.automaton.specs.declared.Mode.the-variants.{Ordinary, Direct, Delayed, Fair}
 use Rattle.automaton.specs.declared.Named.{Named}
@@ -20,3 +21,8 @@ nameOf (suc zero) = Known Direct
 nameOf (suc (suc zero)) = Known Delayed
 nameOf (suc (suc (suc zero))) = Known Fair
 nameOf (suc (suc (suc (suc m)))) = Unknown
+
+-- has no mode this name?
+abbrev pub isUnknown : Named → Bool
+isUnknown (Known m) = false
+isUnknown Unknown = true

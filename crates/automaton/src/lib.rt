@@ -77,6 +77,9 @@ pub enum Refusal {
     LostPosition,
     NoMove,
     OutputLength,
+    LineForm(usize),
+    ProgramLimits,
+    TooLong,
 }
 
 impl Refusal {
@@ -101,6 +104,9 @@ impl Refusal {
             Refusal::LostPosition => 14,
             Refusal::NoMove => 15,
             Refusal::OutputLength => 16,
+            Refusal::LineForm(_) => 20,
+            Refusal::ProgramLimits => 21,
+            Refusal::TooLong => 22,
         }
     }
 
@@ -125,6 +131,9 @@ impl Refusal {
             Refusal::LostPosition => 0,
             Refusal::NoMove => 0,
             Refusal::OutputLength => 0,
+            Refusal::LineForm(line) => line,
+            Refusal::ProgramLimits => 0,
+            Refusal::TooLong => 0,
         }
     }
 }
@@ -264,17 +273,17 @@ fn is_unsorted(moves: &[u8], i: usize) -> bool
     }
     let at = i * 3;
     !is_above(
-        moves[at - 3],
-        moves[at - 2],
-        moves[at - 1],
-        moves[at],
-        moves[at + 1],
-        moves[at + 2],
+        wide(moves[at - 3]),
+        wide(moves[at - 2]),
+        wide(moves[at - 1]),
+        wide(moves[at]),
+        wide(moves[at + 1]),
+        wide(moves[at + 2]),
     )
 }
 
 // Is the move (x2, y2, z2) above (x, y, z)?
-fn is_above(x: u8, y: u8, z: u8, x2: u8, y2: u8, z2: u8) -> bool
+pub fn is_above(x: usize, y: usize, z: usize, x2: usize, y2: usize, z2: usize) -> bool
     ensures { λ r. ⌜ r ≡ above x y z x2 y2 z2 ⌝ }
 {
     if x != x2 {

@@ -1,6 +1,6 @@
 -- The three demands, each theorem under the tester's words that it renders, and what the quotient merges.
 -- They speak of the calls' promises, which are functions: `limited`, `checked`, `sizing`, `topping`, `clearing`, `lifting`, `resting`, `settling`,
--- `relating`, `replying` and `quotienting` give, for every input, what a call answers and what it leaves in the buffers lent to it. The code is proved to do that.
+-- `relating`, `replying`, `quotienting`, `reading` and `reporting` give, for every input, what a call answers and what it leaves in the buffers lent to it. The code is proved to do that.
 -- A job is an automaton, by its board and its start, and the number of a mode.
 use mathlib.Core.Path.{_≡_, refl, sym, ap, _∙_}
 use mathlib.Core.Logic.{_≢_, _↔_, _⊎_, ⊎-elim}
@@ -20,7 +20,7 @@ use Rattle.automaton.specs.Answer.{valued, numberOf, refused, Fault, none, faul
 use Rattle.automaton.specs.Board.{Board, Formed, accepts}
 use Rattle.automaton.specs.Check.{answerOf, automatonFault, limited, checked}
 use Rattle.automaton.specs.Limits.{mostStates, mostLetters, nameOf}
-use Rattle.simulation.specs.Answers.{replies}
+use Rattle.simulation.specs.Answers.{below, settled, replies}
 use Rattle.simulation.specs.Meaning.{LowestLeast, Brings, ahead, tallyAll, Leaves}
 use Rattle.simulation.specs.Moves.{Moves}
 use Rattle.simulation.specs.Position.{Position, spoiler, duplicator, number, Fits}
@@ -37,6 +37,13 @@ use Rattle.relation.specs.Calls as of-relation
 use Rattle.quotient.specs.Answers.{ofMerged}
 use Rattle.quotient.specs.Calls.{Buffers, buffers, quotienting, written}
 use Rattle.quotient.specs.Calls as of-quotient
+use Rattle.text.specs.Answers.{ofReading}
+use Rattle.text.specs.Calls.{Lent, Roomy, reading}
+use Rattle.text.specs.Lines.{linesOf}
+use Rattle.text.specs.Text.{mode, boardIn, textFault, Legible}
+use Rattle.report.specs.Answers.{ofReported}
+use Rattle.report.specs.Calls.{longest, reporting}
+use Rattle.report.specs.Report.{refusalText, relationText, jobIn as textJob, reportOf}
 use Rattle.demands.specs.Ends.{answering, Ends, One, TurnsAway}
 use Rattle.demands.specs.Replies.{jobIn, TakesReplies}
 use Rattle.demands.specs.Order.{Call, AllOrderly, after, raised, duePositions}
@@ -57,8 +64,13 @@ use Rattle.relation.proofs.One.{one-related, one-replied}
 use Rattle.quotient.proofs.Accepted.{quotient-accepted, quotient-refused}
 use Rattle.quotient.proofs.One.{one-merged}
 use Rattle.quotient.proofs.Meaning as merging
+use Rattle.text.proofs.Accepted.{text-line, read-accepted, read-refused}
+use Rattle.text.proofs.One.{one-reading}
+use Rattle.report.proofs.Accepted.{report-accepted, report-refuses}
+use Rattle.report.proofs.One.{one-reported}
+use Rattle.report.proofs.Told.{report-refused, report-told, report-fits}
 use Rattle.demands.proofs.Ends.{limits-accepted, limits-refuses, check-refuses, positions-refuses, ceiling-refuses, rest-refuses, reply-refuses, turns-away, one}
-use Rattle.demands.proofs.Played.{settled-proper, settled-least, relation-left, takes-heeds}
+use Rattle.demands.proofs.Played.{settled-proper, settled-least, below-settled, relation-left, takes-heeds}
 use Rattle.demands.proofs.Lifted as lifting
 
 -- ==== Demand 1
@@ -135,6 +147,20 @@ quotient-ends j x = record { accepted = quotient-accepted j x; refused = quotien
 
 pub quotient-one : (j : Job) (x : Buffers) → One ofMerged (quotienting j x)
 quotient-one j x = one ofMerged (quotienting j x) one-merged
+
+-- `read`: a text that is not legible has one of the program's refusals
+pub read-ends : (text : List ℕ) (x : Lent) → Ends x (reading text x) (Legible text × Roomy text x)
+read-ends text x = record { accepted = read-accepted text x; refused = read-refused text x }
+
+pub read-one : (text : List ℕ) (x : Lent) → One ofReading (reading text x)
+read-one text x = one ofReading (reading text x) one-reading
+
+-- `report`, of any text at all: it needs room for the longest report
+pub report-ends : (text out : List ℕ) → Ends out (reporting text out) (longest ≤ length out)
+report-ends text out = record { accepted = report-accepted text out; refused = report-refuses text out }
+
+pub report-one : (text out : List ℕ) → One ofReported (reporting text out)
+report-one text out = one ofReported (reporting text out) one-reported
 
 -- The refusals 1 to 9 are the same in every call on a table, and 1 to 7 those of `check`.
 pub same-refusal : (j : Job) (t : List ℕ) (r : Refusal) → openFault j (length t) ≡ fault r
@@ -220,6 +246,25 @@ pub fair-counted : (B : Board) (start : ℕ) (t : List ℕ) → Proper (jobIn B 
     → (q r : ℕ) → q < B .n → r < B .n → at t (number B Fair (spoiler 0 q r)) < ceiling B Fair
     → {u : Position} (c : Walks B Fair σ (spoiler 0 q r) u) → (Leaves (Answered B) c → ⊥) → tallyAll (ahead B) c ≤ at t (number B Fair (spoiler 0 q r))
 fair-counted B start t p s σ takes = playing.fair-count B (p .0) t s σ (takes-heeds (jobIn B start 3) t p s σ takes)
+
+-- What the relation program prints, from the bytes it reads (`reportOf`): of a text that is not legible the line of its refusal;
+-- of a legible one the relation of its automaton, in which a pair has a line (it is below T on the settled table) exactly if Duplicator wins it;
+-- and never more than the buffer holds.
+pub printed : (text : List ℕ)
+    → (¬ Legible text → (r : Refusal) × (textFault text ≡ fault r) × (reportOf text ≡ refusalText r))
+    × (Legible text → let B = boardIn (linesOf text) in let m = modeOf (mode (linesOf text)) in
+    (reportOf text ≡ relationText (textJob text))
+    × ((q r : ℕ) → q < B .n → r < B .n → (below B m (settled B m .table) q r ≡ true) ↔ WonPair B m q r))
+    × (length (reportOf text) ≤ longest)
+printed text = (
+  λ n. refusal n (textFault text) refl,
+  λ l. (report-told text (text-line text .1 l), below-settled (boardIn (linesOf text)) (l .formed) (modeOf (mode (linesOf text)))),
+  report-fits text,
+)
+  where
+    refusal : ¬ Legible text → (f : Fault) → textFault text ≡ f → (r : Refusal) × (textFault text ≡ fault r) × (reportOf text ≡ refusalText r)
+    refusal n none e = absurd (n (text-line text .0 e))
+    refusal n (fault r) e = (r, e, report-refused text r e)
 
 -- What the stamp is set on: an accepted `quotient` merges exactly the states that are won against each other both ways,
 module _ (j : Job) (x : Buffers) (told : quotienting j x .answer .number ≡ 0) where

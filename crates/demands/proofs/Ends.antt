@@ -13,13 +13,13 @@ use Rattle.automaton.specs.Board.{Board, boardOf}
 use Rattle.automaton.specs.Limits.{mostStates, mostLetters}
 use Rattle.automaton.proofs.Fault.{unless-number}
 use Rattle.automaton.proofs.Sound.{limits-line}
-use Rattle.automaton.specs.Check.{statesFault, lettersFault, automatonFault, limited, checked}
+use Rattle.automaton.specs.Check.{statesFault, lettersFault, automatonFault, modeFault, limited, checked}
 use Rattle.automaton.specs.First.{first}
 use Rattle.simulation.specs.Answers.{blueMoves, blueReply, turnFault, lostFault, moveFault, replyOn}
 use Rattle.simulation.specs.Position.{Position, positions, position}
 use Rattle.simulation.specs.Rules.{ceiling}
 use Rattle.arena.specs.Job.{Job, modeOf, gameOf}
-use Rattle.arena.specs.Refusals.{modeFault, jobFault, openFault, Fitting, sizing, topping}
+use Rattle.arena.specs.Refusals.{jobFault, openFault, Fitting, sizing, topping}
 use Rattle.arena.proofs.Open.{open-line}
 use Rattle.table.specs.Calls.{entryFault, positionFault, restless, rested, resting}
 use Rattle.table.proofs.Accepted.{rest-number}

@@ -1,14 +1,22 @@
 -- What demand 2 needs of the calls: the bytes that an accepted `relation` leaves, and that a choice which takes the replies follows them.
 use mathlib.Core.Path.{_≡_, sym, ap, subst}
+use mathlib.Core.Logic.{_↔_}
+use mathlib.Core.Bool.{true}
 use mathlib.Core.List.{List}
-use Prim.Native.Nat.{ℕ}
+use Prim.Native.Nat.{ℕ, _<_}
+use borrow.Author.Tests.{ltb-true, lt-ltb}
+use Rattle.games.specs.Game.{at}
 use Rattle.games.specs.Lift.{AtRest, Least}
 use Rattle.games.proofs.Settle.{settle-least}
+use Rattle.automaton.specs.declared.Mode.{Mode}
+use Rattle.automaton.specs.Board.{Board, Formed}
 use Rattle.automaton.specs.Effect.{Effect}
-use Rattle.simulation.specs.Answers.{settled, relation, replies}
+use Rattle.simulation.specs.Answers.{settled, below, relation, replies}
 use Rattle.simulation.specs.Meaning.{Heeds}
 use Rattle.simulation.specs.Position.{number}
-use Rattle.simulation.specs.Won.{Choices}
+use Rattle.simulation.specs.Rules.{beginning, ceiling, game}
+use Rattle.simulation.specs.Won.{Choices, WonPair}
+use Rattle.simulation.proofs.Relation.{least-won}
 use Rattle.arena.specs.Job.{Job, modeOf, gameOf}
 use Rattle.arena.specs.Refusals.{Proper}
 use Rattle.table.specs.Calls.{settling}
@@ -38,3 +46,9 @@ relation-left j t out accepted =
 pub takes-heeds : (j : Job) (t : List ℕ) → Proper j → AtRest (gameOf j) t → (σ : Choices) → TakesReplies j t σ → Heeds (j .board) (modeOf (j .mode)) t σ
 takes-heeds j t p s σ takes b q r a h l =
     takes b q r a h (replies (j .board) (modeOf (j .mode)) t b q r a) (reply-does j t p s b q r a h l)
+
+-- the pairs below T on the settled table are those won
+pub below-settled : (B : Board) → Formed B → (m : Mode) (q r : ℕ) → q < B .n → r < B .n → (below B m (settled B m .table) q r ≡ true) ↔ WonPair B m q r
+below-settled B F m q r h l =
+    let w = least-won B F m (settled B m .table) q r h l (settle-least (game B m)) in
+    (λ e. w .0 (ltb-true (at (settled B m .table) (number B m (beginning B m q r))) (ceiling B m) e), λ x. lt-ltb (at (settled B m .table) (number B m (beginning B m q r))) (ceiling B m) (w .1 x))

@@ -1,7 +1,7 @@
 -- The document's limits: "At the limits P is 139,264"; T is "at most 4,097" in mode 2 and "at most 1,025" in mode 3.
 use mathlib.Core.Path.{_≡_}
 use Prim.Native.Nat.{ℕ, _+_, _*_, _-_, _≤_}
-use native.Mathlib.Nat.{le-trans, mul-add, add-mul, mul-comm, mul-le-mul}
+use native.Mathlib.Nat.{mul-add, add-mul, mul-comm, mul-le-mul}
 use native.Mathlib.Omega.{arith}
 use native.Mathlib.Decide.{decLe}
 use Rattle.automaton.specs.declared.Mode.{Mode}
@@ -34,12 +34,25 @@ layers-most Direct = omega arith
 layers-most Delayed = omega arith
 layers-most Fair = omega arith
 
--- P, where n and k are within the limits
+-- P, where n and k are within any limits, and within those of `automaton`
+pub pairs-within : (B : Board) (m : Mode) (n : ℕ) → B .n ≤ n → pairs B m ≤ 2 * (n * n)
+pairs-within B m n h = mul-le-mul {n₂ = 2} {m₂ = n * n} (layers-most m) (mul-le-mul {n₂ = n} {m₂ = n} h h)
+
+pub size-within : (B : Board) (m : Mode) (n k : ℕ) → B .n ≤ n → B .k ≤ k → positions B m ≤ 2 * (n * n) * (1 + k)
+size-within B m n k h l = mul-le-mul {n₂ = 2 * (n * n)} {m₂ = 1 + k} (pairs-within B m n h) (omega arith)
+
 pub pairs-most : (B : Board) (m : Mode) → B .n ≤ mostStates → pairs B m ≤ 8192
-pairs-most B m h = mul-le-mul {n₂ = 2} {m₂ = 4096} (layers-most m) (mul-le-mul {n₂ = 64} {m₂ = 64} h h)
+pairs-most B m h = pairs-within B m mostStates h
 
 pub size-most : (B : Board) (m : Mode) → B .n ≤ mostStates → B .k ≤ mostLetters → positions B m ≤ 139264
-size-most B m h l = le-trans (mul-le-mul {n₂ = 8192} {m₂ = 17} (pairs-most B m h) (omega arith)) (omega arith)
+size-most B m h l = size-within B m mostStates mostLetters h l
+
+-- T, where n is within any limit
+pub ceiling-within : (B : Board) (m : Mode) (n : ℕ) → B .n ≤ n → ceiling B m ≤ n * n + 1
+ceiling-within B Ordinary n h = omega arith
+ceiling-within B Direct n h = omega arith
+ceiling-within B Delayed n h = omega (arith, mul-le-mul {n₁ = B .n} {m₁ = B .n - ones B} {n₂ = n} {m₂ = n} h (omega arith))
+ceiling-within B Fair n h = omega (arith, mul-le-mul {n₁ = ones B} {m₁ = B .n - ones B} {n₂ = n} {m₂ = n} (omega (arith, ones-most B)) (omega arith))
 
 -- T, where n is within the limit
 pub delayed-most : (n f : ℕ) → n ≤ mostStates → n * (n - f) + 1 ≤ 4097
@@ -59,7 +72,4 @@ module _ (B : Board) (F : Formed B) where
   ceiling-fair = fair-most (B .n) (ones B) (F .few) (ones-most B)
 
   pub ceiling-most : (m : Mode) → ceiling B m ≤ 4097
-  ceiling-most Ordinary = omega arith
-  ceiling-most Direct = omega arith
-  ceiling-most Delayed = ceiling-delayed
-  ceiling-most Fair = omega (arith, ceiling-fair)
+  ceiling-most m = ceiling-within B m mostStates (F .few)

@@ -4,12 +4,11 @@ use mathlib.Core.List.{List, [], _∷_}
 use borrow.Author.Needs.{needs}
 use Rattle.automaton.specs.Answer.{Answer, valued, Fault, none, firstFault, unless}
 use Rattle.automaton.specs.Board.{boardOf}
-use Rattle.automaton.specs.Check.{statesFault, lettersFault, limited}
+use Rattle.automaton.specs.Check.{statesFault, lettersFault, modeFault, limited}
 use Rattle.automaton.proofs.Fault.{faults-passed, faults-stopped}
 use Rattle.automaton.proofs.One.{checked-none, checked-fault}
 use Rattle.automaton.proofs.Sound.{limits-line}
 use Rattle.simulation.specs.Position.{positions}
-use Rattle.arena.specs.Refusals.{modeFault}
 use Rattle.arena.specs.Job.{modeOf}
 use Rattle.arena.proofs.positions.Statement.{statement}
 use Rattle.arena.proofs.positions.Tie as tie

@@ -6,15 +6,9 @@ use lib.Dec.{ltb, leb}
 use borrow.Author.Needs.{needs}
 use borrow.Author.Tests.{ltb-true, ltb-false, lt-ltb, le-ltb, le-leb, lt-leb}
 use Rattle.automaton.specs.Board.{to}
+use Rattle.automaton.proofs.Sound.{leb-not}
 use Rattle.automaton.proofs.is_outside.Statement.{statement}
 use Rattle.automaton.proofs.is_outside.Tie as tie
-
-leb-not : (a b : ℕ) → leb a b ≡ not (ltb b a)
-leb-not a b = go (ltb b a) refl
-  where
-    go : (s : Bool) → ltb b a ≡ s → leb a b ≡ not s
-    go true e = lt-leb a b (ltb-true b a e)
-    go false e = le-leb a b (ltb-false b a e)
 
 last : (x y z n k : ℕ) → x < n → y < k → leb n z ≡ not (ltb x n && ltb y k && ltb z n)
 last x y z n k h l = leb-not n z ∙ simp (lt-ltb x n h, lt-ltb y k l)

@@ -1,5 +1,5 @@
 -- `automaton::is_unsorted` meets its contract: the bytes around 3 i are those of moves i - 1 and i.
-use mathlib.Core.Path.{_≡_, refl, sym, ap, _∙_}
+use mathlib.Core.Path.{_≡_, refl, sym}
 use mathlib.Core.Bool.{not}
 use mathlib.Core.List.{List}
 use Prim.Native.Nat.{ℕ, zero, suc, _+_, _*_, _-_}
@@ -26,47 +26,65 @@ later ms (suc i) h =
 mul-at : tie.Need-mul-at
 mul-at c = search needs
 
-sub-is-above : tie.Need-sub-is-above
-sub-is-above c = search needs
+sub-wide : tie.Need-sub-wide
+sub-wide c = search needs
 
-shared-slice-read-is-above : tie.Need-shared-slice-read-is-above
-shared-slice-read-is-above c = search needs
+shared-slice-read-wide : tie.Need-shared-slice-read-wide
+shared-slice-read-wide c = search needs
 
-sub-is-above-2 : tie.Need-sub-is-above-2
-sub-is-above-2 c = search needs
+wide-requires : tie.Need-wide-requires
+wide-requires c κs = search needs
 
-shared-slice-read-is-above-2 : tie.Need-shared-slice-read-is-above-2
-shared-slice-read-is-above-2 c = search needs
+sub-wide-2 : tie.Need-sub-wide-2
+sub-wide-2 c = search needs
 
-sub-is-above-3 : tie.Need-sub-is-above-3
-sub-is-above-3 c = search needs
+shared-slice-read-wide-2 : tie.Need-shared-slice-read-wide-2
+shared-slice-read-wide-2 c = search needs
 
-shared-slice-read-is-above-3 : tie.Need-shared-slice-read-is-above-3
-shared-slice-read-is-above-3 c = search needs
+wide-requires-2 : tie.Need-wide-requires-2
+wide-requires-2 c κs = search needs
 
-shared-slice-read-is-above-4 : tie.Need-shared-slice-read-is-above-4
-shared-slice-read-is-above-4 c = search needs
+sub-wide-3 : tie.Need-sub-wide-3
+sub-wide-3 c = search needs
 
-add-is-above : tie.Need-add-is-above
-add-is-above c = search needs
+shared-slice-read-wide-3 : tie.Need-shared-slice-read-wide-3
+shared-slice-read-wide-3 c = search needs
 
-shared-slice-read-is-above-5 : tie.Need-shared-slice-read-is-above-5
-shared-slice-read-is-above-5 c = search needs
+wide-requires-3 : tie.Need-wide-requires-3
+wide-requires-3 c κs = search needs
 
-add-is-above-2 : tie.Need-add-is-above-2
-add-is-above-2 c = search needs
+shared-slice-read-wide-4 : tie.Need-shared-slice-read-wide-4
+shared-slice-read-wide-4 c = search needs
 
-shared-slice-read-is-above-6 : tie.Need-shared-slice-read-is-above-6
-shared-slice-read-is-above-6 c = search needs
+wide-requires-4 : tie.Need-wide-requires-4
+wide-requires-4 c κs = search needs
+
+add-wide : tie.Need-add-wide
+add-wide c = search needs
+
+shared-slice-read-wide-5 : tie.Need-shared-slice-read-wide-5
+shared-slice-read-wide-5 c = search needs
+
+wide-requires-5 : tie.Need-wide-requires-5
+wide-requires-5 c κs = search needs
+
+add-wide-2 : tie.Need-add-wide-2
+add-wide-2 c = search needs
+
+shared-slice-read-wide-6 : tie.Need-shared-slice-read-wide-6
+shared-slice-read-wide-6 c = search needs
+
+wide-requires-6 : tie.Need-wide-requires-6
+wide-requires-6 c κs = search needs
 
 is-above-requires : tie.Need-is-above-requires
 is-above-requires c κs = search needs
 
 returns-2 : tie.Need-returns-2
 returns-2 c =
-    let at = c .before .before .before .before .before .before .before in
+    let at = c .before .before .before .before .before .before .before .before .before .before .before .before .before in
     let a = at .before .before .args in
-    ap not (c .is-above .ensures) ∙ sym (later (a .moves .now) (a .i) (at .if1 .left))
+    simp (c .is-above .ensures, c .before .before .before .before .before .before .before .before .before .before .before .wide .ensures, c .before .before .before .before .before .before .before .before .before .wide2 .ensures, c .before .before .before .before .before .before .before .wide3 .ensures, c .before .before .before .before .before .wide4 .ensures, c .before .before .before .wide5 .ensures, c .before .wide6 .ensures) (sym (later (a .moves .now) (a .i) (at .if1 .left)))
 
 pub is-unsorted-spec : {M : Type 1} → statement M
 is-unsorted-spec =
@@ -74,16 +92,22 @@ is-unsorted-spec =
     (tie.spec
     returns
     mul-at
-    sub-is-above
-    shared-slice-read-is-above
-    sub-is-above-2
-    shared-slice-read-is-above-2
-    sub-is-above-3
-    shared-slice-read-is-above-3
-    shared-slice-read-is-above-4
-    add-is-above
-    shared-slice-read-is-above-5
-    add-is-above-2
-    shared-slice-read-is-above-6
+    sub-wide
+    shared-slice-read-wide
+    wide-requires
+    sub-wide-2
+    shared-slice-read-wide-2
+    wide-requires-2
+    sub-wide-3
+    shared-slice-read-wide-3
+    wide-requires-3
+    shared-slice-read-wide-4
+    wide-requires-4
+    add-wide
+    shared-slice-read-wide-5
+    wide-requires-5
+    add-wide-2
+    shared-slice-read-wide-6
+    wide-requires-6
     is-above-requires
     returns-2)

@@ -1,0 +1,5 @@
+pub mod Tests
+pub mod Laid
+pub mod Digits
+pub mod Shown
+pub mod Width

@@ -1,0 +1,9 @@
+pub mod Left
+pub mod PairLines
+pub mod Bare
+pub mod Within
+pub mod Fits
+pub mod Reading
+pub mod Told
+pub mod Accepted
+pub mod One

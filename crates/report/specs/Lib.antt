@@ -1,0 +1,4 @@
+pub mod Report
+pub mod Answers
+pub mod Calls
+pub mod Small

@@ -1,0 +1,2 @@
+-- The definition that a contract of `second` cites.
+pub mod Moves

@@ -1,0 +1,14 @@
+pub mod Pieces
+pub mod Words
+pub mod Steps
+pub mod Filled
+pub mod Form
+pub mod Known
+pub mod Joined
+pub mod Sound
+pub mod Few
+pub mod Effects
+pub mod Places
+pub mod Accepted
+pub mod One
+pub mod Cases
