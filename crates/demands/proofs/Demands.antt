@@ -43,7 +43,7 @@ use Rattle.text.specs.Lines.{linesOf}
 use Rattle.text.specs.Text.{mode, boardIn, textFault, Legible}
 use Rattle.report.specs.Answers.{ofReported}
 use Rattle.report.specs.Calls.{longest, reporting}
-use Rattle.report.specs.Report.{refusalText, relationText, jobIn as textJob, reportOf}
+use Rattle.report.specs.Report.{refusalText, relationText, jobRead, reportOf}
 use Rattle.demands.specs.Ends.{answering, Ends, One, TurnsAway}
 use Rattle.demands.specs.Replies.{jobIn, TakesReplies}
 use Rattle.demands.specs.Order.{Call, AllOrderly, after, raised, duePositions}
@@ -253,7 +253,7 @@ fair-counted B start t p s σ takes = playing.fair-count B (p .0) t s σ (takes-
 pub printed : (text : List ℕ)
     → (¬ Legible text → (r : Refusal) × (textFault text ≡ fault r) × (reportOf text ≡ refusalText r))
     × (Legible text → let B = boardIn (linesOf text) in let m = modeOf (mode (linesOf text)) in
-    (reportOf text ≡ relationText (textJob text))
+    (reportOf text ≡ relationText (jobRead text))
     × ((q r : ℕ) → q < B .n → r < B .n → (below B m (settled B m .table) q r ≡ true) ↔ WonPair B m q r))
     × (length (reportOf text) ≤ longest)
 printed text = (

@@ -20,7 +20,7 @@ use Rattle.text.proofs.Effects.{done, lines-fault, reading-refused, reading-don
 use Rattle.text.proofs.Few.{moves-few}
 use Rattle.text.proofs.One.{one-reading}
 use Rattle.report.specs.Small.{Small}
-use Rattle.report.specs.Report.{jobIn}
+use Rattle.report.specs.Report.{jobRead}
 
 -- the two buffers that the report lends
 abbrev pub empty : Lent
@@ -76,5 +76,5 @@ module _ (text : List ℕ) where
     pub count-is : c ≡ length (moves (linesOf text)) / 3
     count-is = let s = same in cc
 
-  pub job-small : Legible text → Small (jobIn text)
+  pub job-small : Legible text → Small (jobRead text)
   job-small l = ((l .formed, l .started, l .known), (l .few, l .few-letters))

@@ -19,7 +19,7 @@ use Rattle.text.specs.Text.{textFault}
 use Rattle.text.proofs.Accepted.{text-line}
 use Rattle.text.proofs.Places.{text-place}
 use Rattle.report.specs.Calls.{longest, reporting}
-use Rattle.report.specs.Report.{refusalText, relationText, jobIn, reportOf}
+use Rattle.report.specs.Report.{refusalText, relationText, jobRead, reportOf}
 use Rattle.report.proofs.Fits.{refusal-fits, relation-fits}
 use Rattle.report.proofs.Reading.{before-long, job-small}
 
@@ -28,7 +28,7 @@ module _ (text : List ℕ) where
   unfolding reportOf
   report-refused r e = simp e
 
-  pub report-told : textFault text ≡ none → reportOf text ≡ relationText (jobIn text)
+  pub report-told : textFault text ≡ none → reportOf text ≡ relationText (jobRead text)
   unfolding reportOf
   report-told e = simp e
 
@@ -36,7 +36,7 @@ module _ (text : List ℕ) where
   report-fits = go (textFault text) refl
     where
       go : (f : Fault) → textFault text ≡ f → length (reportOf text) ≤ longest
-      go none e = rw (report-told e) (relation-fits (jobIn text) (job-small text (text-line text .0 e)))
+      go none e = rw (report-told e) (relation-fits (jobRead text) (job-small text (text-line text .0 e)))
       go (fault r) e = rw (report-refused r e) (refusal-fits r (omega (arith, text-place text r e)))
 
   module _ (out : List ℕ) where

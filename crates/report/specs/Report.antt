@@ -65,8 +65,8 @@ relationText j =
 -- ---- the whole
 
 -- the job that a text gives
-abbrev pub jobIn : (text : List ℕ) → Job
-jobIn text = let ls = linesOf text in record { board = boardIn ls; start = head ls .start; mode = mode ls }
+abbrev pub jobRead : (text : List ℕ) → Job
+jobRead text = let ls = linesOf text in record { board = boardIn ls; start = head ls .start; mode = mode ls }
 
 -- the line of a refusal, or the relation
 abbrev pub told : Fault → (relation : List ℕ) → List ℕ
@@ -75,4 +75,4 @@ told (fault r) l = refusalText r
 
 -- all that the program prints, from the bytes it reads
 unfoldable pub reportOf : (text : List ℕ) → List ℕ
-reportOf text = told (textFault text) (relationText (jobIn text))
+reportOf text = told (textFault text) (relationText (jobRead text))

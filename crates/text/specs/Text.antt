@@ -20,13 +20,17 @@ use Rattle.text.specs.Order.{misplaced, formFault}
 
 -- ---- the numbers
 
+-- what no line has said yet
+abbrev pub unsaid : Automaton
+unsaid = record { states = 0; letters = 0; start = 0 }
+
 -- "First `automaton`, n, k, start": in a text of right form the first line says so
 abbrev pub headIn : Line → Automaton
 headIn (line.Automaton n k s) = record { states = n; letters = k; start = s }
-headIn (line.Mode m) = record { states = 0; letters = 0; start = 0 }
-headIn (line.Accept q) = record { states = 0; letters = 0; start = 0 }
-headIn (line.Move p a q) = record { states = 0; letters = 0; start = 0 }
-headIn line.Wrong = record { states = 0; letters = 0; start = 0 }
+headIn (line.Mode m) = unsaid
+headIn (line.Accept q) = unsaid
+headIn (line.Move p a q) = unsaid
+headIn line.Wrong = unsaid
 
 abbrev pub head : List Line → Automaton
 head ls = headIn (getD ls 0 line.Wrong)

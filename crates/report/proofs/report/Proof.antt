@@ -18,7 +18,7 @@ use Rattle.text.proofs.Accepted.{text-line}
 use Rattle.text.proofs.Sound.{moves-three, marks-length}
 use Rattle.arena.specs.Job.{jobOf}
 use Rattle.report.specs.Small.{Small}
-use Rattle.report.specs.Report.{refusalText, relationText, jobIn, reportOf}
+use Rattle.report.specs.Report.{refusalText, relationText, jobRead, reportOf}
 use Rattle.report.proofs.Reading.{empty, before-long, before-front, text-done, refused-text, held-text, automaton-is, mode-is, count-is, job-small, text-few}
 use Rattle.report.proofs.Told.{report-refused, report-told, report-short, report-put}
 use Rattle.report.proofs.report.Statement.{statement}
@@ -104,7 +104,7 @@ moves-part k =
     ap (λ (l : List ℕ). part l (count-at k * 3)) (moves-left k) ∙ before-front (moves (lines-at k)) (empty .moves) (count-at k * 3) (sym (bytes-told k))
 
 -- what is described is the job of the text
-job-is : (k : tie.After-known-told2) → jobOf (automaton-at k) (part (read-at k .read .last .1 .0) (automaton-at k .states)) (part (read-at k .read .last .1 .1 .0) (count-at k * 3)) (mode-at k) ≡ jobIn (text-at (read-at k))
+job-is : (k : tie.After-known-told2) → jobOf (automaton-at k) (part (read-at k .read .last .1 .0) (automaton-at k .states)) (part (read-at k .read .last .1 .1 .0) (count-at k * 3)) (mode-at k) ≡ jobRead (text-at (read-at k))
 job-is k =
     let a = automaton-told k in
     let m = mode-is (text-at (read-at k)) (automaton-at k) (mode-at k) (count-at k) (held-at k) in
