@@ -1,6 +1,7 @@
 // The numbers of one automaton's game in one mode: P, T and the arena, in which the calls on a table work.
 // Refusals 1 to 9, which those calls share, are decided here.
 ghost use mathlib.Core.Path.{_≡_};
+ghost use mathlib.Core.Bool.{true};
 ghost use mathlib.Core.List.{[]};
 ghost use Prim.Native.Nat.{_≤_};
 ghost use lib.Dec.{eqb};
@@ -9,7 +10,7 @@ ghost use Rattle.games.specs.Play.{count};
 ghost use Rattle.automaton.specs.Board.{boardOf};
 ghost use Rattle.automaton.specs.Limits.{mostLetters, mostStates};
 ghost use Rattle.simulation.specs.Position.{layers, pairs, positions};
-ghost use Rattle.simulation.specs.Rules.{bit, ceiling, eased, owed};
+ghost use Rattle.simulation.specs.Rules.{bit, ceiling, eased, owed, pended};
 ghost use Rattle.arena.specs.Answers.{ofCounted};
 ghost use Rattle.arena.specs.Arena.{entered, opened};
 ghost use Rattle.arena.specs.Job.{jobOf};
@@ -85,6 +86,18 @@ pub fn owed(mode: Mode, red: bool, blue: bool) -> usize
     }
 }
 
+// The bit b after Red's move to an accepting state.
+pub fn pended(mode: Mode, b: usize) -> usize
+    ensures { λ r. ⌜ r ≡ pended mode true b ⌝ }
+{
+    match mode {
+        Mode::Ordinary => b,
+        Mode::Direct => b,
+        Mode::Delayed => 1,
+        Mode::Fair => b,
+    }
+}
+
 // The bit b after Blue's move to a state that accepts or does not.
 pub fn eased(mode: Mode, accepting: bool, b: usize) -> usize
     ensures { λ r. ⌜ r ≡ eased mode accepting b ⌝ }
@@ -103,7 +116,7 @@ pub fn eased(mode: Mode, accepting: bool, b: usize) -> usize
 }
 
 // How many values b has.
-fn layers_of(mode: Mode) -> usize
+pub fn layers_of(mode: Mode) -> usize
     ensures { λ r. ⌜ r ≡ layers mode ⌝ }
 {
     match mode {

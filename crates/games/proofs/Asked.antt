@@ -36,6 +36,11 @@ unfolding lowest
 lowest-le T f (List·Memᴰ·head {x = v} {xs = vs} e) = rw e (omega arith)
 lowest-le T f (List·Memᴰ·tail {x = v} {xs = vs} m) = omega (arith, lowest-le T f m)
 
+pub lowest-ge : (T x : ℕ) (f : ℕ → ℕ) (ws : List ℕ) → x ≤ T → ((w : ℕ) → List·Memᴰ w ws → x ≤ f w) → x ≤ lowest T f ws
+unfolding lowest
+lowest-ge T x f [] c h = c
+lowest-ge T x f (v ∷ vs) c h = omega (arith, h v (List·Memᴰ·head refl), lowest-ge T x f vs c (λ w m. h w (List·Memᴰ·tail m)))
+
 pub highest-ge : (f : ℕ → ℕ) {w : ℕ} {ws : List ℕ} → List·Memᴰ w ws → f w ≤ highest f ws
 unfolding highest
 highest-ge f (List·Memᴰ·head {x = v} {xs = vs} e) = rw e (omega arith)
@@ -67,7 +72,7 @@ unfolding highest
 highest-mono f h le [] = le-refl 0
 highest-mono f h le (v ∷ vs) = omega (arith, le v, highest-mono f h le vs)
 
-full-mono : (T a b : ℕ) → a ≤ b → full T a ≤ full T b
+pub full-mono : (T a b : ℕ) → a ≤ b → full T a ≤ full T b
 full-mono T a b le = go (full-cases T a) (full-cases T b)
   where
     go : Full T a (full T a) → Full T b (full T b) → full T a ≤ full T b

@@ -4,6 +4,9 @@ pub mod Lift
 pub mod Raises
 pub mod Settle
 pub mod Sweeping
+pub mod Rose
+pub mod Half
+pub mod Rule
 pub mod Replies
 pub mod Complete
 pub mod Verdict

@@ -13,7 +13,7 @@ use Rattle.games.specs.Game.{Kind, low, high, counting, resetting, idle,
 use Rattle.games.specs.Lift.{AtRest}
 use Rattle.games.specs.Play.{isCounting, isResetting, Step, Walk, stop, more, counts, resets, Wins, Won}
 use Rattle.games.specs.Reply.{LeastReplies, better, firstLeast, pick}
-use Rattle.games.proofs.Asked.{Full, full-cases, highest-ge}
+use Rattle.games.proofs.Asked.{Full, full-cases, lowest-ge, highest-ge}
 
 -- ---- the first of the least
 
@@ -71,11 +71,6 @@ pub picks : (g : Game) (t : List ℕ) → LeastReplies g t (λ v. pick (at t) (g
 picks g t = record { choice = λ v i e n. pick-in (at t) (g .next v) n; least = λ v i e w m. pick-le (at t) (g .next v) m }
 
 -- ---- one step, by kind
-
-lowest-ge : (T x : ℕ) (f : ℕ → ℕ) (ws : List ℕ) → x ≤ T → ((w : ℕ) → List·Memᴰ w ws → x ≤ f w) → x ≤ lowest T f ws
-unfolding lowest
-lowest-ge T x f [] c h = c
-lowest-ge T x f (v ∷ vs) c h = omega (arith, h v (List·Memᴰ·head refl), lowest-ge T x f vs c (λ w m. h w (List·Memᴰ·tail m)))
 
 -- from an entry m below T that has all it asks for: one step on the entry is below T, and until a reset each counting position takes one away
 step-down : (k : Kind) (T : ℕ) (f : ℕ → ℕ) (ws : List ℕ) (m w : ℕ) → ask k T f ws ≤ m → m < T → List·Memᴰ w ws

@@ -4,6 +4,7 @@ use mathlib.Core.List.{List, [], _∷_, _++_}
 use Prim.Native.Nat.{ℕ, zero, suc, _+_, _-_, _≤_, _<_}
 use native.Mathlib.Nat.{add-zero, zero-add}
 use native.Mathlib.Omega.{arith}
+use native.Mathlib.Numerals.{add-one}
 use lib.ListN.{length, set}
 use Rattle.games.specs.Game.{Game, asked, at}
 use Rattle.games.specs.Lift.{cleared, lift, lifts, rise, raises, bound}
@@ -26,9 +27,15 @@ module _ (g : Game) (t : List ℕ) (v a : ℕ) (e : a ≡ asked g (at t) v) wher
 
 -- ---- one sweep, position by position
 
+pub ascending-append : (v c d : ℕ) → ascending v (c + d) ≡ ascending v c ++ ascending (v + c) d
+ascending-append v zero d = rw (zero-add d, add-zero v)
+ascending-append v (suc c) d =
+    let e : v + suc c ≡ suc v + c = omega arith in
+    let f : suc c + d ≡ suc (c + d) = omega arith in
+    rw (e, f) (ap (λ (z : List ℕ). v ∷ z) (ascending-append (suc v) c d))
+
 ascending-more : (v c : ℕ) → ascending v (suc c) ≡ ascending v c ++ ((v + c) ∷ [])
-ascending-more v zero = rw (add-zero v)
-ascending-more v (suc c) = let e : v + suc c ≡ suc v + c = omega arith in rw e (ap (λ z. v ∷ z) (ascending-more (suc v) c))
+ascending-more v c = ap (ascending v) (sym (add-one c)) ∙ ascending-append v c 1
 
 module _ (g : Game) (t : List ℕ) (v : ℕ) where
   pub lifts-more : lifts g t (ascending 0 (suc v)) ≡ lift g (lifts g t (ascending 0 v)) v

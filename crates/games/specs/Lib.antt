@@ -4,3 +4,4 @@ pub mod Settle
 pub mod Play
 pub mod Reply
 pub mod Measure
+pub mod Half

@@ -13,19 +13,19 @@ use Rattle.simulation.specs.Position.{Position, spoiler, duplicator, lay
 -- ---- b·n² + q·n + q' and back
 
 module _ (B : Board) where
-  horner : (b q r : ℕ) → pair B b q r ≡ (b * B .n + q) * B .n + r
+  pub horner : (b q r : ℕ) → pair B b q r ≡ (b * B .n + q) * B .n + r
   horner b q r = sym (rw (add-mul (b * B .n) q (B .n), mul-assoc b (B .n) (B .n)))
 
   pub pair-lt : (L : ℕ) {b q r : ℕ} → b < L → q < B .n → r < B .n → pair B b q r < L * (B .n * B .n)
   pair-lt L {b} {q} {r} x y z = rw (horner b q r, ← mul-assoc L (B .n) (B .n)) (digits-lt (digits-lt x y) z)
 
-  pair-b : (b q r : ℕ) → q < B .n → r < B .n → pair B b q r / B .n / B .n ≡ b
+  pub pair-b : (b q r : ℕ) → q < B .n → r < B .n → pair B b q r / B .n / B .n ≡ b
   pair-b b q r y z = rw (horner b q r, digits-div (b * B .n + q) z) (digits-div b y)
 
-  pair-q : (b q r : ℕ) → q < B .n → r < B .n → pair B b q r / B .n % B .n ≡ q
+  pub pair-q : (b q r : ℕ) → q < B .n → r < B .n → pair B b q r / B .n % B .n ≡ q
   pair-q b q r y z = rw (horner b q r, digits-div (b * B .n + q) z) (digits-mod b y)
 
-  pair-r : (b q r : ℕ) → r < B .n → pair B b q r % B .n ≡ r
+  pub pair-r : (b q r : ℕ) → r < B .n → pair B b q r % B .n ≡ r
   pair-r b q r z = rw (horner b q r) (digits-mod (b * B .n + q) z)
 
   unpair : (v : ℕ) → pair B (v / B .n / B .n) (v / B .n % B .n) (v % B .n) ≡ v

@@ -4,7 +4,7 @@ mod asked; // asked.rt: the value that a position asks for
 mod index; // index.rt: where the moves of each state and letter begin
 mod scan; // scan.rt: High and Low
 mod steps; // steps.rt: the positions one step on
-mod work; // work.rt: filling, lifting and sweeping a table
+mod work; // work.rt: filling and lifting a table
 
 ghost use mathlib.Core.Path.{_≡_};
 ghost use Rattle.games.specs.Settle.{settle};
@@ -140,14 +140,12 @@ pub fn settle(a: Automaton, marks: &[u8], moves: &[u8], mode: usize, table: &mut
     }
 }
 
-// The settle in an arena: clear, then the sweeps.
+// The settle in an arena: clear, then the sweeps, half by half.
 fn settle_in(g: Arena, marks: &[u8], moves: &[u8], table: &mut [u32]) -> usize
     requires { ⌜ Ready g (now marks) (now moves) (now table) ⌝ }
     ensures { λ r. ⌜ r ≡ settle (gameIn g (now (marks .entry)) (now (moves .entry))) .raised ⌝ }
     ensures { λ r. ⌜ now (table .exit) ≡ settle (gameIn g (now (marks .entry)) (now (moves .entry))) .table ⌝ }
 {
-    let mut begins = [0usize; index::KEYS];
-    index::fill(g.states, g.letters, moves, &mut begins[..]);
     work::clear(table, g.pairs);
-    work::sweeps(g, marks, moves, &begins[..], table)
+    rounds::settle(g, marks, moves, table)
 }

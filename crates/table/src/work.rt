@@ -1,10 +1,9 @@
-// Filling, lifting and sweeping a table whose arena is known.
+// Filling and lifting a table whose arena is known.
 ghost use mathlib.Core.Path.{_≡_};
 ghost use Prim.Native.Nat.{_≤_, _<_};
 ghost use lib.ListN.{length, replicate};
 ghost use Rattle.automaton.specs.First.{first};
-ghost use Rattle.games.specs.Lift.{cleared, lift, lifts, raises, rise};
-ghost use Rattle.games.specs.Settle.{settle, sweep};
+ghost use Rattle.games.specs.Lift.{lift, rise};
 ghost use Rattle.arena.specs.Arena.{gameIn, Ready};
 ghost use Rattle.table.specs.Calls.{above, restless};
 ghost use Rattle.table.specs.Index.{Indexed};
@@ -88,38 +87,4 @@ pub fn lift(
         return 1;
     }
     0
-}
-
-// Lifts every position once, in ascending order: how many of the lifts raised an entry.
-fn sweep(g: Arena, marks: &[u8], moves: &[u8], begins: &[usize], table: &mut [u32]) -> usize
-    requires { ⌜ Ready g (now marks) (now moves) (now table) ⌝ }
-    requires { ⌜ Indexed (g .states) (g .letters) (now moves) (now begins) ⌝ }
-    ensures { λ r. ⌜ r ≡ raises (gameIn g (now (marks .entry)) (now (moves .entry))) (now (table .entry)) (sweep (gameIn g (now (marks .entry)) (now (moves .entry)))) ⌝ }
-    ensures { λ r. ⌜ now (table .exit) ≡ lifts (gameIn g (now (marks .entry)) (now (moves .entry))) (now (table .entry)) (sweep (gameIn g (now (marks .entry)) (now (moves .entry)))) ⌝ }
-{
-    let mut raised = 0;
-    let mut v = 0;
-    while v < table.len() {
-        raised += lift(g, marks, moves, begins, table, v);
-        v += 1;
-    }
-    raised
-}
-
-// Sweeps a cleared table until a whole sweep raises nothing: the number of raises.
-pub fn sweeps(g: Arena, marks: &[u8], moves: &[u8], begins: &[usize], table: &mut [u32]) -> usize
-    requires { ⌜ Ready g (now marks) (now moves) (now table) ⌝ }
-    requires { ⌜ Indexed (g .states) (g .letters) (now moves) (now begins) ⌝ }
-    requires { ⌜ now table ≡ cleared (gameIn g (now marks) (now moves)) ⌝ }
-    ensures { λ r. ⌜ r ≡ settle (gameIn g (now (marks .entry)) (now (moves .entry))) .raised ⌝ }
-    ensures { λ r. ⌜ now (table .exit) ≡ settle (gameIn g (now (marks .entry)) (now (moves .entry))) .table ⌝ }
-{
-    let mut raised = 0;
-    loop {
-        let more = sweep(g, marks, moves, begins, table);
-        if more == 0 {
-            return raised;
-        }
-        raised += more;
-    }
 }

@@ -1,0 +1,16 @@
+pub mod Bounds
+pub mod Stored
+pub mod Seeking
+pub mod Sharing
+pub mod Peeling
+pub mod Reaching
+pub mod Gathering
+pub mod Marking
+pub mod Part
+pub mod Raised
+pub mod Asking
+pub mod Work
+pub mod Found
+pub mod Reds
+pub mod Whole
+pub mod Ending

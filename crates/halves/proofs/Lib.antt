@@ -1,0 +1,5 @@
+pub mod Places
+pub mod Steps
+pub mod Apart
+pub mod Drawing
+pub mod Rest

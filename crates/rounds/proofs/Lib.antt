@@ -1,0 +1,5 @@
+pub mod Between
+pub mod Cleared
+pub mod Room
+pub mod Onward
+pub mod Wiping

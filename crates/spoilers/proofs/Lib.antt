@@ -1,0 +1,13 @@
+pub mod Members
+pub mod Writes
+pub mod Parts
+pub mod Events
+pub mod Bounds
+pub mod Through
+pub mod Fronts
+pub mod Asks
+pub mod Leads
+pub mod Pushes
+pub mod Whole
+pub mod Calms
+pub mod Floors

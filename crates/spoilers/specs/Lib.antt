@@ -1,0 +1,5 @@
+pub mod Note
+pub mod Work
+pub mod Shape
+pub mod Front
+pub mod Floor

@@ -1,0 +1,4 @@
+pub mod Digits
+pub mod Sets
+pub mod Operations
+pub mod Sum
