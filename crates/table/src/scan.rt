@@ -1,4 +1,4 @@
-// High and Low: the greatest and the least entry one step on. Lift, rest and settle all work them out here.
+// High and Low: the greatest and the least entry one step on. Lift and rest both work them out here.
 ghost use mathlib.Core.Path.{_≡_};
 ghost use Prim.Native.Nat.{_≤_};
 ghost use lib.ListN.{length};
