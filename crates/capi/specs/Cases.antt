@@ -1,6 +1,6 @@
 -- Numbers too large for a byte, or for four, in the arguments of automaton A: each is refused, as it stands.
 use mathlib.Core.List.{List, [], _∷_}
-use Prim.Native.Nat.{ℕ, _+_, _^_}
+use Prim.Native.Nat.{_+_, _^_}
 use Rattle.automaton.specs.declared.Refusal.the-variants.{States, Letters, Start, ModeNumber, PositionNumber}
 use Rattle.automaton.specs.Answer.{refused, valued}
 use Rattle.automaton.specs.Board.{boardOf}

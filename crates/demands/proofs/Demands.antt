@@ -37,9 +37,9 @@ use Rattle.relation.specs.Calls as of-relation
 use Rattle.quotient.specs.Answers.{ofMerged}
 use Rattle.quotient.specs.Calls.{Buffers, buffers, quotienting, written}
 use Rattle.quotient.specs.Calls as of-quotient
+use Rattle.lines.specs.Lines.{linesOf}
 use Rattle.text.specs.Answers.{ofReading}
 use Rattle.text.specs.Calls.{Lent, Roomy, reading}
-use Rattle.text.specs.Lines.{linesOf}
 use Rattle.text.specs.Text.{mode, boardIn, textFault, Legible}
 use Rattle.report.specs.Answers.{ofReported}
 use Rattle.report.specs.Calls.{longest, reporting}

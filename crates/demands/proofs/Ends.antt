@@ -21,7 +21,8 @@ use Rattle.simulation.specs.Rules.{ceiling}
 use Rattle.arena.specs.Job.{Job, modeOf, gameOf}
 use Rattle.arena.specs.Refusals.{jobFault, openFault, Fitting, sizing, topping}
 use Rattle.arena.proofs.Open.{open-line}
-use Rattle.table.specs.Calls.{entryFault, positionFault, restless, rested, resting}
+use Rattle.entries.specs.Found.{restless}
+use Rattle.table.specs.Calls.{entryFault, positionFault, rested, resting}
 use Rattle.table.proofs.Accepted.{rest-number}
 use Rattle.table.proofs.AtRest.{rest-lowest}
 use Rattle.relation.specs.Calls.{restFault, replying}

@@ -24,8 +24,8 @@ use Rattle.halves.specs.Drawn.{Accepting, Onto}
 use Rattle.halves.specs.Half.{lowAt, replied}
 use Rattle.halves.proofs.Places.{pair-below}
 use Rattle.halves.proofs.Steps.{move-within, duplicator-kind, duplicator-step, duplicator-stepped}
+use Rattle.levels.specs.Lows.{LowOf, LowPast, Within}
 use Rattle.duplicators.specs.declared.seats.Row.{Row}
-use Rattle.duplicators.specs.Lows.{LowOf, LowPast, Within}
 use Rattle.duplicators.specs.Rows.{Rowed, seatBy, seenIn, Seats}
 
 -- ---- Low over the moves

@@ -7,13 +7,6 @@ use Rattle.automaton.specs.declared.Mode.{Mode}
 use Rattle.simulation.specs.Position.{layers}
 use Rattle.simulation.proofs.Limits.{layers-most}
 
--- a word of a state and a letter, of n·k words
-pub cell-below : {n k x a : ℕ} → x < n → a < k → x * k + a < n * k
-cell-below h l = digits-lt h l
-
-pub cells-few : {n k : ℕ} → n ≤ 64 → k ≤ 16 → n * k ≤ 1024
-cells-few {n} {k} h l = mul-le-mul {n₁ = n} {m₁ = k} {n₂ = 64} {m₂ = 16} h l
-
 -- where a row of b and q begins, piece by piece
 pub start-few : (m : Mode) {b q n : ℕ} → n ≤ 64 → b < layers m → q < n → (n * n ≤ 4096) × (b * (n * n) ≤ 8192) × (q * n ≤ 4096)
 start-few m {b} {q} {n} h l k =

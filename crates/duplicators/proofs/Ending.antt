@@ -13,13 +13,13 @@ use Rattle.automaton.specs.Board.{Board, Formed}
 use Rattle.simulation.specs.Moves.{Moves}
 use Rattle.simulation.specs.Position.{layers, positions}
 use Rattle.halves.specs.Drawn.{Onto}
-use Rattle.duplicators.specs.Candidates.{AllIn}
+use Rattle.levels.specs.Candidates.{AllIn}
+use Rattle.levels.specs.Lows.{AllWithin}
+use Rattle.levels.proofs.Stored.{below-one}
 use Rattle.duplicators.specs.Ends.{WithDead, Dead, AllDead, LayerFound, EachFound}
 use Rattle.duplicators.specs.Growing.{Growing, Answered}
-use Rattle.duplicators.specs.Lows.{AllWithin}
 use Rattle.duplicators.specs.Rows.{Still, FoundStill, AllEnded}
 use Rattle.duplicators.proofs.Part.{part-none, part-still, part-join}
-use Rattle.duplicators.proofs.Stored.{below-one}
 
 -- ---- the states without a move by a letter
 

@@ -16,14 +16,14 @@ use Rattle.simulation.specs.Rules.{ceiling}
 use Rattle.halves.specs.Drawn.{Into, Onto}
 use Rattle.halves.specs.Half.{lowAt, replied}
 use Rattle.halves.proofs.Steps.{move-within}
-use Rattle.duplicators.specs.Candidates.{Leads, Found, AllSpared, AllIn}
+use Rattle.levels.specs.Candidates.{Leads, Found, AllSpared, AllIn}
+use Rattle.levels.specs.Levels.{Levels}
+use Rattle.levels.specs.Lows.{LowOf, Within, AllWithin}
+use Rattle.levels.proofs.Peeling.{hit-low}
 use Rattle.duplicators.specs.Growing.{Growing, Answered}
-use Rattle.duplicators.specs.Levels.{Levels}
-use Rattle.duplicators.specs.Lows.{LowOf, Within, AllWithin}
 use Rattle.duplicators.specs.Rows.{AtMost, Still, RowStill, RowStirred, RowFound, FoundStill, FoundTold}
 use Rattle.duplicators.proofs.Asking.{low-under, low-at}
 use Rattle.duplicators.proofs.Part.{part-still}
-use Rattle.duplicators.proofs.Peeling.{hit-low}
 
 pub below-lt : {n every : ℕ} → Below n every → (x : ℕ) → In x every → x < n
 below-lt {n} b x i = go (decLt x n)

@@ -9,9 +9,9 @@ use lib.Seq.{getD-set-same, getD-set-other}
 use Rattle.games.specs.Game.{at}
 use Rattle.words.specs.Word.{In}
 use Rattle.words.proofs.Sets.{empty, with-cases, with-old}
-use Rattle.duplicators.specs.Lows.{WithLow}
+use Rattle.levels.specs.Lows.{WithLow}
+use Rattle.levels.proofs.Stored.{stored}
 use Rattle.duplicators.specs.Rows.{AtMost}
-use Rattle.duplicators.proofs.Stored.{stored}
 
 pub at-most-start : (row : List ℕ) (old : ℕ) → AtMost 0 row old 0
 at-most-start row old = record { within = λ x i. absurd (empty x i); all = λ x l h. absurd (omega arith) }

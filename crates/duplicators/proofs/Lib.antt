@@ -1,9 +1,4 @@
 pub mod Bounds
-pub mod Stored
-pub mod Seeking
-pub mod Sharing
-pub mod Peeling
-pub mod Reaching
 pub mod Gathering
 pub mod Marking
 pub mod Part

@@ -16,8 +16,8 @@ use Rattle.halves.specs.Drawn.{Accepting}
 use Rattle.halves.specs.Half.{lowAt, Stirred}
 use Rattle.halves.proofs.Steps.{move-within}
 use Rattle.halves.specs.Rising.{rising}
-use Rattle.duplicators.specs.Candidates.{Fresh}
-use Rattle.duplicators.specs.Lows.{Within}
+use Rattle.levels.specs.Lows.{Within}
+use Rattle.duplicators.specs.Fresh.{Fresh}
 use Rattle.duplicators.specs.Rows.{Still, RowStill, RowStirred, RedStirred}
 use Rattle.duplicators.proofs.Asking.{eased-stays}
 use Rattle.duplicators.proofs.Found.{below-lt}

@@ -19,12 +19,12 @@ use Rattle.arena.proofs.Open.{ready-again}
 use Rattle.halves.specs.Half.{lowAt, Stirred}
 use Rattle.halves.proofs.Places.{each-duplicator}
 use Rattle.halves.specs.Rising.{rising}
+use Rattle.levels.proofs.Stored.{below-one}
 use Rattle.duplicators.specs.Growing.{Growing, Answered, AnsweredIn}
 use Rattle.duplicators.specs.Rows.{Still, RowStill, LayerStill, RedStirred, LayerStirred, Prepared}
 use Rattle.duplicators.proofs.Asking.{eased-stays}
 use Rattle.duplicators.proofs.Found.{below-lt}
 use Rattle.duplicators.proofs.Part.{at-out, low-same, part-none, part-still, part-join}
-use Rattle.duplicators.proofs.Stored.{below-one}
 use Rattle.duplicators.proofs.Work.{spacious-again}
 
 -- ---- what the work asks for holds after a part of it

@@ -14,12 +14,12 @@ use Rattle.simulation.specs.Position.{layers, positions}
 use Rattle.arena.specs.declared.Arena.{Arena}
 use Rattle.arena.proofs.Open.{ready-again}
 use Rattle.halves.specs.Rising.{Spacious}
+use Rattle.levels.specs.Lows.{Within}
+use Rattle.levels.proofs.Stored.{below-one}
 use Rattle.duplicators.specs.declared.seats.Row.{Row}
 use Rattle.duplicators.specs.Growing.{Growing, Answered, AnsweredIn}
-use Rattle.duplicators.specs.Lows.{Within}
 use Rattle.duplicators.specs.Rows.{Still, LetterStill, Tells, Working}
 use Rattle.duplicators.proofs.Part.{low-same, part-none, part-still, part-join}
-use Rattle.duplicators.proofs.Stored.{below-one}
 
 -- ---- what the work asks for holds after a part of it
 

@@ -1,6 +1,4 @@
-pub mod Lows
-pub mod Levels
-pub mod Candidates
+pub mod Fresh
 pub mod Rows
 pub mod Growing
 pub mod Ends

@@ -19,8 +19,8 @@ use Rattle.arena.specs.Arena.{boardIn, Ready}
 use Rattle.halves.specs.Drawn.{Accepting, Into, Onto}
 use Rattle.halves.specs.Half.{lowAt, Stirred}
 use Rattle.halves.specs.Rising.{Rising, Roomy, Spacious}
+use Rattle.levels.specs.Levels.{Levels, FirstHit}
 use Rattle.duplicators.specs.declared.seats.Row.{Row}
-use Rattle.duplicators.specs.Levels.{Levels, FirstHit}
 
 -- the row of b and q: where Spoiler's entries (b,q,·) begin, and where they do with the bit b that an accepting state makes
 pub record Rowed (n : ℕ) (m : Mode) (w : Row) : Type 0 where

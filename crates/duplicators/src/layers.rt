@@ -3,13 +3,13 @@ ghost use Prim.Native.Nat.{_<_};
 ghost use Rattle.simulation.specs.Position.{layers};
 ghost use Rattle.arena.specs.Arena.{boardIn};
 ghost use Rattle.halves.specs.Rising.{rising};
-ghost use Rattle.duplicators.specs.Candidates.{Fresh};
+ghost use Rattle.duplicators.specs.Fresh.{Fresh};
 ghost use Rattle.duplicators.specs.Growing.{AnsweredIn, growing};
 ghost use Rattle.duplicators.specs.Rows.{LayerStill, LayerStirred, Prepared, RedStirred, RowStill};
-use super::levels::lesser;
 use super::rows::answer_row;
 use super::seats::row_at;
 use arena::Arena;
+use levels::row::lesser;
 
 // The states whose entries have risen, as Duplicator sees them: of `plain` those that are in `others`, and of `marked` those that accept.
 fn fresh_in(acc: u64, others: u64, plain: u64, marked: u64) -> u64

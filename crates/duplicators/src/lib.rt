@@ -1,5 +1,4 @@
 // Duplicator's half of a sweep, which looks only at positions that have a step to an entry that has risen.
-ghost use mathlib.Core.Path.{_≡_};
 ghost use lib.ListN.{length};
 ghost use Rattle.games.specs.Half.{Halved};
 ghost use Rattle.arena.specs.Arena.{boardIn, gameIn, Ready};
@@ -10,10 +9,8 @@ ghost use Rattle.duplicators.specs.Growing.{AnsweredIn, growing};
 use arena::Arena;
 use layers::answer_layer;
 
-mod candidates;
 mod ends;
 mod layers;
-mod levels;
 mod raising;
 mod rows;
 mod scans;

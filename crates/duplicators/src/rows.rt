@@ -3,16 +3,15 @@ ghost use Prim.Native.Nat.{_*_, _≤_};
 ghost use lib.ListN.{length};
 ghost use Rattle.arena.specs.Arena.{boardIn};
 ghost use Rattle.halves.specs.Drawn.{Accepting, Into, Onto};
+ghost use Rattle.levels.specs.Lows.{AllWithin, Within};
 ghost use Rattle.duplicators.specs.Growing.{AnsweredIn, growing};
-ghost use Rattle.duplicators.specs.Lows.{AllWithin, Within};
 ghost use Rattle.duplicators.specs.Rows.{FoundStill, LevelsTell, RowFound, RowStill, RowStirred, Working};
-use super::candidates;
-use super::levels;
 use super::scans;
 use super::seats;
 use super::seats::Row;
 use super::told;
 use arena::Arena;
+use levels::candidates;
 
 // Raises the candidates of a row, none of which has a step to one of `low`, by the levels of the others: how many rose.
 fn level_rest(
@@ -39,7 +38,7 @@ fn level_rest(
     let mut values = [0u32; 64];
     let mut members = [0u64; 64];
     let rest = words::minus(words::below(g.states), low);
-    let count = levels::levels(row, rest, g.top, &mut values, &mut members);
+    let count = levels::row::levels(row, rest, g.top, &mut values, &mut members);
     told::level_all(
         g,
         marks,
@@ -159,12 +158,16 @@ fn level_row(
     )
 }
 
-// Are scans the cheaper way? They are for few candidates, and where states have few moves. Either way is right.
-fn few(n: usize, k: usize, count: usize, moves: usize) -> bool
+// Are scans the cheaper way? They are for few candidates, and where states have few moves; but with T of 1 many candidates are soonest
+// told apart by words, since all that have no step to a 0 rise. Either way is right.
+fn few(n: usize, k: usize, count: usize, moves: usize, top: u32) -> bool
     requires { ⌜ (n ≤ 64) × (k ≤ 16) × (count ≤ 1024) ⌝ }
 {
     if count <= 8 {
         return true;
+    }
+    if top == 1 && count > 64 {
+        return false;
     }
     moves <= 65536 && count * moves <= (4 * n + 2 * count) * n * k
 }
@@ -197,7 +200,7 @@ pub fn answer_row(
     let k = g.letters;
     let mut found = [0u64; 16];
     let count = candidates::reach_all(n, k, into, fresh, &mut found);
-    if few(n, k, count, moves.len() / 3) {
+    if few(n, k, count, moves.len() / 3, g.top) {
         return scans::scan_all(g, marks, moves, acc, onto, w, &found, table, grown, columns);
     }
     level_row(

@@ -3,14 +3,14 @@ ghost use Prim.Native.Nat.{_≤_, _<_};
 ghost use lib.ListN.{length};
 ghost use Rattle.arena.specs.Arena.{boardIn};
 ghost use Rattle.halves.specs.Drawn.{Accepting, Onto};
+ghost use Rattle.levels.specs.Lows.{AllWithin, LowPast, Within};
 ghost use Rattle.duplicators.specs.Growing.{AnsweredIn, growing};
-ghost use Rattle.duplicators.specs.Lows.{AllWithin, LowPast, Within};
 ghost use Rattle.duplicators.specs.Rows.{FoundStill, LetterStill, Seats, seenIn, Still, Working};
-use super::levels::lesser;
 use super::raising;
 use super::seats;
 use super::seats::Row;
 use arena::Arena;
+use levels::row::lesser;
 
 // The least entry that the steps lead to, and top if there are none. It looks no further once it is no greater than `old`.
 fn low_scan(acc: u64, table: &[u32], w: Row, n: usize, steps: u64, old: u32, top: u32) -> u32

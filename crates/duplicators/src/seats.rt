@@ -4,7 +4,7 @@ ghost use Prim.Native.Nat.{_+_, _≤_, _<_};
 ghost use lib.ListN.{length};
 ghost use Rattle.automaton.specs.Limits.{mostStates};
 ghost use Rattle.simulation.specs.Position.{layers};
-ghost use Rattle.duplicators.specs.Lows.{WithLow};
+ghost use Rattle.levels.specs.Lows.{WithLow};
 ghost use Rattle.duplicators.specs.Rows.{AtMost, Gathered, Rowed, Seats, seenIn};
 use arena::Arena;
 

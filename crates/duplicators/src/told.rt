@@ -2,10 +2,9 @@
 ghost use Prim.Native.Nat.{_*_, _≤_, _<_};
 ghost use lib.ListN.{length};
 ghost use Rattle.arena.specs.Arena.{boardIn};
+ghost use Rattle.levels.specs.Lows.{AllWithin, Within};
 ghost use Rattle.duplicators.specs.Growing.{AnsweredIn, growing};
-ghost use Rattle.duplicators.specs.Lows.{AllWithin, Within};
 ghost use Rattle.duplicators.specs.Rows.{FoundStill, FoundTold, LetterStill, LetterTold, Still, Tells, Working};
-use super::levels;
 use super::raising;
 use super::seats::Row;
 use arena::Arena;
@@ -35,7 +34,7 @@ fn level_one(
     ensures { λ c. ⌜ Still (boardIn g (now (marks .entry)) (now (moves .entry))) (g .mode) (now (table .exit)) (w .b) (w .q) r a ⌝ }
 {
     let steps = onto[r * g.letters + a];
-    let low = levels::low_among(values, members, count, steps, g.top);
+    let low = levels::row::low_among(values, members, count, steps, g.top);
     raising::raise(g, marks, moves, w, r, a, low, table, grown, columns)
 }
 

@@ -1,6 +1,5 @@
 -- What each half of a sweep may skip.
 -- Functions below the calls promise it to each other; no public promise cites it.
-use mathlib.Core.Path.{_≡_}
 use mathlib.Core.Logic.{_⊎_}
 use mathlib.Core.List.{List}
 use Prim.Native.Nat.{ℕ, _+_, _*_, _≤_, _<_}

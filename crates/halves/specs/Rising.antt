@@ -10,7 +10,7 @@ use Rattle.games.specs.Half.{rose}
 use Rattle.words.specs.Word.{dig, In}
 use Rattle.automaton.specs.declared.Mode.{Mode}
 use Rattle.automaton.specs.Board.{Board}
-use Rattle.simulation.specs.Position.{spoiler, duplicator, layers, pairs, pair, number}
+use Rattle.simulation.specs.Position.{duplicator, layers, pairs, pair, number}
 use Rattle.simulation.specs.Rules.{game}
 
 -- Spoiler's half as it goes: the table; word b·n + q of `risen`, the r whose (b,q,r) have risen; word b of `rows`, the q of such rows;

@@ -1,7 +1,3 @@
-pub mod Lists
-pub mod Turns
-pub mod Bytes
-pub mod Bare
 pub mod Outputs
 pub mod Accepted
 pub mod Meaning

@@ -25,7 +25,7 @@ use Rattle.laws.proofs.Quotient.{class-below, class-order, class-onto, quotient
 use Rattle.arena.specs.Job.{Job, modeOf}
 use Rattle.quotient.specs.Calls.{Buffers, merging, quotienting, written}
 use Rattle.quotient.proofs.Accepted.{quotient-accepted, quotient-does}
-use Rattle.quotient.proofs.Bytes.{class-at}
+use Rattle.classing.proofs.Bytes.{class-at}
 
 -- what was written reads back as the quotient by the table
 written-is : (B : Board) (m : Mode) (start : ℕ) (t : List ℕ) → written (B .k) (merging B m start t) ≡ quotientOf B m t

@@ -1,8 +1,5 @@
 // The quotient of an automaton: states that are related to each other both ways become one class.
 // The call first decides whether to refuse, and writes nothing if it does.
-mod classes; // classes.rt: which states are equal, and the number of each one's class
-mod written; // written.rt: the marks and the moves of the classes
-
 ghost use mathlib.Core.Path.{_≡_};
 ghost use Prim.Native.Nat.{_<_};
 ghost use lib.ListN.{length};
@@ -85,11 +82,11 @@ fn merge(
 {
     let states = g.states;
     let letters = g.letters;
-    let count = classes::number(g, marks, table, classes);
-    written::fill_marks(count, marks, &classes[..], classmarks);
-    let mut seen = [0u8; written::TRIPLES];
-    written::mark_images(states, letters, &classes[..], moves, &mut seen[..]);
-    let bytes = written::write_moves(states, letters, &seen[..], classmoves);
-    written::leave_unused(&mut classmoves[bytes..]);
+    let count = classing::classes::number(g, marks, table, classes);
+    classing::written::fill_marks(count, marks, &classes[..], classmarks);
+    let mut seen = [0u8; classing::written::TRIPLES];
+    classing::written::mark_images(states, letters, &classes[..], moves, &mut seen[..]);
+    let bytes = classing::written::write_moves(states, letters, &seen[..], classmoves);
+    classing::written::leave_unused(&mut classmoves[bytes..]);
     Merged::Counts(count, bytes / 3, wide(classes[start]))
 }

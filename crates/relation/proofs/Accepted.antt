@@ -25,7 +25,8 @@ use Rattle.simulation.proofs.Reply.{reply-answers}
 use Rattle.arena.specs.Job.{Job, modeOf, gameOf}
 use Rattle.arena.specs.Refusals.{openFault, Proper}
 use Rattle.arena.proofs.Open.{open-line}
-use Rattle.table.specs.Calls.{entryFault, positionFault, restless}
+use Rattle.entries.specs.Found.{restless}
+use Rattle.table.specs.Calls.{entryFault, positionFault}
 use Rattle.table.proofs.Accepted.{entry-line, position-line}
 use Rattle.relation.specs.Calls.{restFault, outputFault, relating, replying, Sized, Answerable}
 use Rattle.relation.proofs.Effects.{relating-does, replying-does}

@@ -1,4 +1,3 @@
-pub mod Scanned
 pub mod Tested
 pub mod Effects
 pub mod Bare

@@ -13,7 +13,8 @@ use Rattle.automaton.specs.First.{first}
 use Rattle.automaton.proofs.One.{refused-not, unless-refused}
 use Rattle.arena.specs.Job.{Job, gameOf}
 use Rattle.arena.specs.Refusals.{openFault}
-use Rattle.table.specs.Calls.{entryFault, restless, rested, resting}
+use Rattle.entries.specs.Found.{restless}
+use Rattle.table.specs.Calls.{entryFault, rested, resting}
 use Rattle.relation.specs.Calls.{restFault}
 
 -- the answer of the search for the lowest position not at rest, by whether there is one

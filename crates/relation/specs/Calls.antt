@@ -15,7 +15,8 @@ use Rattle.simulation.specs.Answers.{relation, related, replyAt}
 use Rattle.arena.specs.Job.{Job, modeOf, gameOf}
 use Rattle.simulation.specs.Position.{pairs}
 use Rattle.arena.specs.Refusals.{openFault, Proper, opening}
-use Rattle.table.specs.Calls.{entryFault, positionFault, restless}
+use Rattle.entries.specs.Found.{restless}
+use Rattle.table.specs.Calls.{entryFault, positionFault}
 
 -- ---- the refusals 12 and 16
 

@@ -1,8 +1,5 @@
 // The calls that read a table at rest: `relation` and `reply`.
 // Each call first decides whether to refuse, and writes nothing if it does.
-mod best; // best.rt: Blue's best move
-mod pairs; // pairs.rt: the bytes of the relation
-
 ghost use mathlib.Core.Path.{_≡_};
 ghost use Prim.Native.Nat.{_<_};
 ghost use lib.ListN.{length};
@@ -11,12 +8,12 @@ ghost use Rattle.arena.specs.Arena.{boardIn, Ready};
 ghost use Rattle.arena.specs.Job.{jobOf};
 ghost use Rattle.relation.specs.Answers.{ofRelated, ofReplied};
 ghost use Rattle.relation.specs.Calls.{relating, replying};
-use self::best::Best;
 use arena::Arena;
 use arena::Opened;
 use automaton::Automaton;
 use automaton::Refusal;
 use table::Rested;
+use verdicts::best::Best;
 
 // What `relation` answers: how many pairs are related.
 pub enum Related {
@@ -55,7 +52,7 @@ pub fn relation(
                     if out.len() != states * states {
                         return Related::Refused(Refusal::OutputLength);
                     }
-                    Related::Ones(pairs::fill(g, marks, table, out))
+                    Related::Ones(verdicts::pairs::fill(g, marks, table, out))
                 }
             }
         }
@@ -117,7 +114,7 @@ fn reply_at(g: Arena, marks: &[u8], moves: &[u8], table: &[u32], position: usize
     let w = position - pairs;
     let u = w / letters;
     let p = u / states;
-    let best = best::scan(
+    let best = verdicts::best::scan(
         g,
         marks,
         moves,

@@ -1,5 +1,2 @@
-pub mod Between
-pub mod Cleared
-pub mod Room
+pub mod Lent
 pub mod Onward
-pub mod Wiping

@@ -1,13 +1,11 @@
-// The settle by half-rounds: each sweep does Spoiler's half and then Duplicator's, and leaves out what is at rest.
+// The settle by half-rounds: sweep after sweep, each made from its two halves, until one raises nothing.
 // The table and the number of raises are those of the defined sweeps.
-mod wipe; // wipe.rt: taking marks away
-
 ghost use mathlib.Core.Path.{_≡_};
-ghost use Rattle.games.specs.Lift.{cleared, lifts, raises};
-ghost use Rattle.games.specs.Settle.{settle, sweep};
+ghost use Rattle.games.specs.Lift.{cleared};
+ghost use Rattle.games.specs.Settle.{settle};
 ghost use Rattle.arena.specs.Arena.{boardIn, gameIn, Ready};
 ghost use Rattle.halves.specs.Rising.{Blank};
-ghost use Rattle.rounds.specs.Poised.{Equipped, Poised};
+ghost use Rattle.sweep.specs.Poised.{Equipped};
 use arena::Arena;
 use automaton::Automaton;
 
@@ -15,101 +13,6 @@ use automaton::Automaton;
 const ROWS: usize = 2 * Automaton::STATES;
 
 const COLUMNS: usize = 2 * halves::WORDS;
-
-// The first sweep of a cleared table, a full pass: how many lifts raised an entry.
-fn first(
-    g: Arena,
-    marks: &[u8],
-    moves: &[u8],
-    acc: u64,
-    into: &[u64],
-    onto: &[u64],
-    table: &mut [u32],
-    risen: &mut [u64],
-    rows: &mut [u64],
-    olds: &mut [u32],
-    grown: &mut [u64],
-    columns: &mut [u64],
-) -> usize
-    requires { ⌜ Equipped g (now marks) (now moves) (now table) acc (now into) (now onto) (now risen) (now rows) (now olds) (now grown) (now columns) ⌝ }
-    requires { ⌜ now table ≡ cleared (gameIn g (now marks) (now moves)) ⌝ }
-    requires { ⌜ Blank (boardIn g (now marks) (now moves)) (g .mode) (now risen) ⌝ }
-    ensures { λ r. ⌜ r ≡ raises (gameIn g (now (marks .entry)) (now (moves .entry))) (now (table .entry)) (sweep (gameIn g (now (marks .entry)) (now (moves .entry)))) ⌝ }
-    ensures { λ r. ⌜ now (table .exit) ≡ lifts (gameIn g (now (marks .entry)) (now (moves .entry))) (now (table .entry)) (sweep (gameIn g (now (marks .entry)) (now (moves .entry)))) ⌝ }
-    ensures { λ r. ⌜ Poised (boardIn g (now (marks .entry)) (now (moves .entry))) (g .mode) (now (table .exit)) (now (risen .exit)) (now (grown .exit)) (now (columns .exit)) ⌝ }
-{
-    let begun = spoilers::begin(g, marks, moves, acc, table, risen, rows, olds);
-    let ended = duplicators::dead_ends(g, marks, moves, acc, onto, table, grown, columns);
-    let answered = duplicators::answer(
-        g,
-        marks,
-        moves,
-        acc,
-        into,
-        onto,
-        &risen[..],
-        &rows[..],
-        &olds[..],
-        table,
-        grown,
-        columns,
-    );
-    wipe::all_rows(g, marks, moves, risen, rows, olds);
-    begun + ended + answered
-}
-
-// A later sweep: how many lifts raised an entry.
-fn again(
-    g: Arena,
-    marks: &[u8],
-    moves: &[u8],
-    acc: u64,
-    into: &[u64],
-    onto: &[u64],
-    table: &mut [u32],
-    risen: &mut [u64],
-    rows: &mut [u64],
-    olds: &mut [u32],
-    grown: &mut [u64],
-    columns: &mut [u64],
-) -> usize
-    requires { ⌜ Equipped g (now marks) (now moves) (now table) acc (now into) (now onto) (now risen) (now rows) (now olds) (now grown) (now columns) ⌝ }
-    requires { ⌜ Poised (boardIn g (now marks) (now moves)) (g .mode) (now table) (now risen) (now grown) (now columns) ⌝ }
-    ensures { λ r. ⌜ r ≡ raises (gameIn g (now (marks .entry)) (now (moves .entry))) (now (table .entry)) (sweep (gameIn g (now (marks .entry)) (now (moves .entry)))) ⌝ }
-    ensures { λ r. ⌜ now (table .exit) ≡ lifts (gameIn g (now (marks .entry)) (now (moves .entry))) (now (table .entry)) (sweep (gameIn g (now (marks .entry)) (now (moves .entry)))) ⌝ }
-    ensures { λ r. ⌜ Poised (boardIn g (now (marks .entry)) (now (moves .entry))) (g .mode) (now (table .exit)) (now (risen .exit)) (now (grown .exit)) (now (columns .exit)) ⌝ }
-{
-    let pushed = spoilers::push(
-        g,
-        marks,
-        moves,
-        acc,
-        into,
-        &grown[..],
-        &columns[..],
-        table,
-        risen,
-        rows,
-        olds,
-    );
-    wipe::all_columns(g, grown, columns);
-    let answered = duplicators::answer(
-        g,
-        marks,
-        moves,
-        acc,
-        into,
-        onto,
-        &risen[..],
-        &rows[..],
-        &olds[..],
-        table,
-        grown,
-        columns,
-    );
-    wipe::all_rows(g, marks, moves, risen, rows, olds);
-    pushed + answered
-}
 
 // Sweeps a cleared table until a sweep raises nothing: the number of raises.
 fn sweeps(
@@ -132,7 +35,7 @@ fn sweeps(
     ensures { λ r. ⌜ r ≡ settle (gameIn g (now (marks .entry)) (now (moves .entry))) .raised ⌝ }
     ensures { λ r. ⌜ now (table .exit) ≡ settle (gameIn g (now (marks .entry)) (now (moves .entry))) .table ⌝ }
 {
-    let mut raised = first(
+    let mut raised = sweep::first(
         g,
         marks,
         moves,
@@ -149,8 +52,9 @@ fn sweeps(
     if raised == 0 {
         return 0;
     }
+    let mut last = raised;
     loop {
-        let more = again(
+        let more = sweep::again(
             g,
             marks,
             moves,
@@ -163,11 +67,13 @@ fn sweeps(
             olds,
             grown,
             columns,
+            last,
         );
         if more == 0 {
             return raised;
         }
         raised += more;
+        last = more;
     }
 }
 
@@ -184,7 +90,7 @@ pub fn settle(g: Arena, marks: &[u8], moves: &[u8], table: &mut [u32]) -> usize
     let acc = halves::accepting(g, marks, moves);
     let mut risen = [0u64; ROWS];
     let mut rows = [0u64; 2];
-    let mut olds = [wipe::UNSEEN; ROWS];
+    let mut olds = [sweep::UNSEEN; ROWS];
     let mut grown = [0u64; COLUMNS];
     let mut columns = [0u64; 2];
     sweeps(

@@ -19,7 +19,7 @@ use Rattle.simulation.specs.Rules.{game}
 use Rattle.halves.specs.Rising.{Rising, Noted, Spoiling, Pushed, rising}
 use Rattle.halves.proofs.Places.{pair-row, pair-one, pair-below}
 use Rattle.spoilers.specs.Note.{First, Again, Noting}
-use Rattle.spoilers.proofs.Writes.{added-old, added-away}
+use Rattle.spoilers.proofs.Writes.{inserted-old, inserted-away}
 use Rattle.spoilers.proofs.Parts.{asked-kept}
 
 module _ (B : Board) (m : Mode) (F : Formed B) (b q r e : ℕ) (hb : b < layers m) (hq : q < B .n) (hr : r < B .n)
@@ -104,7 +104,7 @@ module _ (B : Board) (m : Mode) (F : Formed B) (b q r e : ℕ) (hb : b < layers 
 
           left : (b′ q′ r′ : ℕ) → pair B b′ q′ r′ ≢ i → Left b′ q′ r′
           left b′ q′ r′ n =
-              (added-away (f .risen) (b′ * B .n + q′) r′ (λ x y. n (row-of b′ q′ r′ x y)), added-old (f .rows) b′ q′, f .olds .less (b′ * B .n + q′))
+              (inserted-away (f .risen) (b′ * B .n + q′) r′ (λ x y. n (row-of b′ q′ r′ x y)), inserted-old (f .rows) b′ q′, f .olds .less (b′ * B .n + q′))
 
   -- again: it is noted, and has risen from t₀
   again-goes : (ri ro ol : List ℕ) → In r (at ri (b * B .n + q)) → (t₀ : List ℕ) (d : ℕ) → Spoiling B m t₀ (rising t ri ro ol) d

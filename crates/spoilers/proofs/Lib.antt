@@ -11,3 +11,4 @@ pub mod Pushes
 pub mod Whole
 pub mod Calms
 pub mod Floors
+pub mod Pulls

@@ -31,7 +31,7 @@ gives-mono bump T v w q h = go (in-or-out bump q)
     go (inr o) = rw (given-out bump v (min (suc v) T) q o, given-out bump w (min (suc w) T) q o) h
 
 -- a position asks for what the rule makes of any entry that a move of Red's leads to
-source-asks : (B : Board) (m : Mode) → Formed B → (b q r a x : ℕ) → b < layers m → r < B .n → Moves B q a x → (t : List ℕ)
+pub source-asks : (B : Board) (m : Mode) → Formed B → (b q r a x : ℕ) → b < layers m → r < B .n → Moves B q a x → (t : List ℕ)
     → ruled B m b q r (at t (challenged B m b r x a)) ≤ asked (game B m) (at t) (pair B b q r)
 source-asks B m F b q r a x hb hr move t =
     let hq = move-within B F q a x move .0 in
@@ -95,17 +95,17 @@ module _ (B : Board) (m : Mode) (F : Formed B) (b r a x : ℕ) (hb : b < layers 
 
 -- ---- a column
 
-module _ (B : Board) (m : Mode) {acc b r : ℕ} {c : Column} (grown t : List ℕ) where
-  pub column-done : ColumnOf B m acc b r c → ((a : ℕ) → a < B .k → Lettered B m grown (c .bit) (c .blue) t a) → Columned B m grown b t r
-  column-done (shape, e, d) all = rw (← e, ← d) all
+module _ (B : Board) (m : Mode) {acc b r : ℕ} {c : Column} (t : List ℕ) where
+  pub column-done : (grown : List ℕ) → ColumnOf B m acc b r c → ((a : ℕ) → a < B .k → Lettered B m grown (c .bit) (c .blue) t a) → Columned B m grown b t r
+  column-done grown (shape, e, d) all = rw (← e, ← d) all
 
   -- a column that no entry raises
-  pub column-idle : Formed B → ((v : ℕ) → pairs B m ≤ v → at t v ≤ ceiling B m)
+  pub column-still : Formed B → ((v : ℕ) → pairs B m ≤ v → at t v ≤ ceiling B m)
       → ((b q r : ℕ) → b < layers m → q < B .n → r < B .n → ruled B m b q r 0 ≤ at t (pair B b q r))
-      → ColumnOf B m acc b r c → ceiling B m < c .from → Columned B m grown b t r
-  column-idle F cap floor (shape, e, d) high =
-      column-done (shape, e, d) (λ a ha x hx i.
-      heard-below B m F (c .bit) (c .blue) a x (shape .bit) (shape .blue) (shape .asking) t (cap _ (omega arith)) (λ q hq. floor (c .bit) q (c .blue) (shape .bit) hq (shape .blue))
+      → ColumnOf B m acc b r c → ceiling B m < c .from → (a x : ℕ) → Heard B m b r a t x
+  column-still F cap floor (shape, e, d) high a x =
+      rw (← e, ← d)
+      (heard-below B m F (c .bit) (c .blue) a x (shape .bit) (shape .blue) (shape .asking) t (cap _ (omega arith)) (λ q hq. floor (c .bit) q (c .blue) (shape .bit) hq (shape .blue))
       (omega (arith, high, cap (challenged B m (c .bit) (c .blue) x a) (omega arith))))
 
 -- ---- what is heeded stays so

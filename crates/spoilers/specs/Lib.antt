@@ -3,3 +3,4 @@ pub mod Work
 pub mod Shape
 pub mod Front
 pub mod Floor
+pub mod Pull

@@ -1,17 +1,12 @@
 -- What is noted of an entry that rises.
 -- Functions below the calls promise it to each other; no public promise cites it.
 use mathlib.Core.Path.{_≡_}
-use mathlib.Core.Logic.{_≢_, _⊎_}
+use mathlib.Core.Logic.{_⊎_}
 use mathlib.Core.List.{List}
 use Prim.Native.Nat.{ℕ, _≤_}
 use Rattle.games.specs.Game.{at}
-use Rattle.words.specs.Word.{dig, In, With}
-use Rattle.halves.specs.Rising.{Rising}
-
--- word i of u is word i of l with x, and the others are as they were
-pub record Added (l u : List ℕ) (i x : ℕ) : Type 0 where
-  pub here : With (at l i) x (at u i)
-  pub other : (j : ℕ) → j ≢ i → at u j ≡ at l j
+use Rattle.words.specs.Word.{dig, In}
+use Rattle.halves.specs.Drawn.{Inserted}
 
 -- entry i of u is at most e, and none is greater than in l
 pub record Lowered (l u : List ℕ) (i e : ℕ) : Type 0 where
@@ -21,8 +16,8 @@ pub record Lowered (l u : List ℕ) (i e : ℕ) : Type 0 where
 -- of `risen`, `rows` and `olds`, before and after: r was not in row i and is put there, q is put among the rows of b, and the row's old entry is lowered to e
 pub record First (ri ro ol ri′ ro′ ol′ : List ℕ) (i b q r e : ℕ) : Type 0 where
   pub out : dig (at ri i) r ≡ 0
-  pub risen : Added ri ri′ i r
-  pub rows : Added ro ro′ b q
+  pub risen : Inserted ri i r ri′
+  pub rows : Inserted ro b q ro′
   pub olds : Lowered ol ol′ i e
 
 -- r was in row i, and nothing is written

@@ -1,15 +1,8 @@
 // What is noted of an entry that rises: itself in its row, the row, and the least old entry of the row.
 ghost use Prim.Native.Nat.{_<_};
 ghost use lib.ListN.{length};
-ghost use Rattle.spoilers.specs.Note.{Added, Lowered, Noting};
-
-// Puts x into set i.
-fn add(sets: &mut [u64], i: usize, x: usize)
-    requires { ⌜ (i < length (now sets)) × (x < 64) ⌝ }
-    ensures { λ _. ⌜ Added (now (sets .entry)) (now (sets .exit)) i x ⌝ }
-{
-    sets[i] = words::with(sets[i], x);
-}
+ghost use Rattle.spoilers.specs.Note.{Lowered, Noting};
+use halves::insert;
 
 // Lowers entry i to e, if it is greater.
 fn lower(olds: &mut [u32], i: usize, e: u32)
@@ -38,8 +31,8 @@ pub fn note(
     if words::has(risen[i], r) {
         return 0;
     }
-    add(risen, i, r);
-    add(rows, b, q);
+    insert(risen, i, r);
+    insert(rows, b, q);
     lower(olds, i, e);
     1
 }

@@ -10,7 +10,7 @@ use super::note::note;
 use arena::Arena;
 
 // Raises Spoiler's (b, q, r) to e, which it asks for: 1 if it rises for the first time in this half, else 0.
-fn raise(
+pub fn raise(
     g: Arena,
     marks: &[u8],
     moves: &[u8],
@@ -41,7 +41,7 @@ fn raise(
 }
 
 // What state q gets: w if it is in the set, and v if not.
-fn given(bump: u64, v: u32, w: u32, q: usize) -> u32
+pub fn given(bump: u64, v: u32, w: u32, q: usize) -> u32
     requires { ⌜ q < 64 ⌝ }
     ensures { λ r. ⌜ r ≡ given bump v w q ⌝ }
 {

@@ -20,7 +20,8 @@ use Rattle.arena.specs.Refusals.{openFault, Fitting}
 use Rattle.automaton.specs.Effect.{Refuses}
 use Rattle.automaton.proofs.Effects.{unless-also, always, alone, does-number, does-refuse}
 use Rattle.table.proofs.Effects.{lifted-in, lifted-out}
-use Rattle.table.specs.Calls.{above, entryFault, positionFault, clearing, lifted, lifting, restAt, rested, resting, settling}
+use Rattle.entries.specs.Found.{above}
+use Rattle.table.specs.Calls.{entryFault, positionFault, clearing, lifted, lifting, restAt, rested, resting, settling}
 use Rattle.arena.proofs.Open.{open-line}
 use Rattle.arena.proofs.Opening.{opening-does}
 

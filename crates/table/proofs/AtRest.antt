@@ -14,7 +14,8 @@ use Rattle.automaton.specs.First.{first}
 use Rattle.automaton.proofs.First.{first-lowest, first-none}
 use Rattle.arena.specs.Job.{Job, gameOf}
 use Rattle.arena.specs.Refusals.{Proper, Fitting}
-use Rattle.table.specs.Calls.{restless, restAt, rested, resting}
+use Rattle.entries.specs.Found.{restless}
+use Rattle.table.specs.Calls.{restAt, rested, resting}
 use Rattle.table.proofs.Accepted.{entry-line, rest-accepted}
 use Rattle.arena.proofs.Open.{open-line}
 

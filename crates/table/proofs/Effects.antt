@@ -10,7 +10,8 @@ use Rattle.automaton.specs.declared.Refusal.{Refusal}
 use Rattle.automaton.specs.declared.Refusal.the-variants.{AboveCeiling, PositionNumber}
 use Rattle.automaton.specs.Answer.{valued, refused, none, fault}
 use Rattle.automaton.specs.First.{first}
-use Rattle.table.specs.Calls.{above, entryFault, lifted, restless, restAt, rested}
+use Rattle.entries.specs.Found.{above, restless}
+use Rattle.table.specs.Calls.{entryFault, lifted, restAt, rested}
 
 -- what a search for the first entry above T found
 module _ (g : Game) (t : List ℕ) (w : ℕ) (e : w ≡ first (above (g .T) t) 0 (length t)) where

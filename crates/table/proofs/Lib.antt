@@ -1,8 +1,3 @@
-pub mod Parts
-pub mod Bounds
-pub mod Keys
-pub mod Ahead
-pub mod Stretch
 pub mod Effects
 pub mod Accepted
 pub mod AtRest

@@ -1,10 +1,10 @@
 -- The calls on a table, for every input: what each answers, and the table after it.
-use mathlib.Core.Bool.{Bool, cond}
+use mathlib.Core.Bool.{cond}
 use mathlib.Core.List.{List, [], _∷_}
 use Prim.Native.Nat.{ℕ}
 use lib.Dec.{ltb, leb}
 use lib.ListN.{length}
-use Rattle.games.specs.Game.{Game, asked, at}
+use Rattle.games.specs.Game.{Game}
 use Rattle.games.specs.Lift.{cleared, lift, rise}
 use Rattle.games.specs.Settle.{settle}
 use Rattle.automaton.specs.declared.Refusal.the-variants.{AboveCeiling, PositionNumber}
@@ -13,13 +13,11 @@ use Rattle.automaton.specs.First.{first}
 use Rattle.arena.specs.Job.{Job, gameOf}
 use Rattle.automaton.specs.Effect.{Effect, does}
 use Rattle.arena.specs.Refusals.{openFault, opening}
+use Rattle.entries.specs.Found.{above, restless}
 
 -- ---- the refusals 10 and 11
 
 -- 10: "an entry above T" at "first such entry"
-abbrev pub above : (T : ℕ) → (table : List ℕ) → ℕ → Bool
-above T t v = ltb T (at t v)
-
 abbrev pub entryFault : Game → (table : List ℕ) → Fault
 entryFault g t = failsAt AboveCeiling (above (g .T) t) (length t)
 
@@ -39,10 +37,6 @@ lifted g t v = does (firstFault (entryFault g t ∷ positionFault g v ∷ [])) t
 
 unfoldable pub lifting : Job → (table : List ℕ) → ℕ → Effect (List ℕ)
 lifting j t v = opening j (length t) t (lifted (gameOf j) t v)
-
--- "A position is at rest when a lift would not raise it": one that is not
-abbrev pub restless : Game → (table : List ℕ) → ℕ → Bool
-restless g t v = ltb (at t v) (asked g (at t) v)
 
 -- "Rest: value 1 if the table is at rest, else 0 with the lowest position not at rest as place."
 abbrev pub restAt : (P lowest : ℕ) → Answer

@@ -1,11 +1,5 @@
 // The calls on a lent table: `clear`, `lift`, `rest` and `settle`. `arena::positions` and `arena::ceiling` give its length and T.
 // Each call first decides whether to refuse, and writes nothing if it does.
-mod asked; // asked.rt: the value that a position asks for
-mod index; // index.rt: where the moves of each state and letter begin
-mod scan; // scan.rt: High and Low
-mod steps; // steps.rt: the positions one step on
-mod work; // work.rt: filling and lifting a table
-
 ghost use mathlib.Core.Path.{_≡_};
 ghost use Rattle.games.specs.Settle.{settle};
 ghost use Rattle.arena.specs.Arena.{gameIn, Ready};
@@ -52,7 +46,7 @@ pub fn clear(a: Automaton, marks: &[u8], moves: &[u8], mode: usize, table: &mut 
     match opened {
         Opened::Shut(refusal) => Cleared::Refused(refusal),
         Opened::Open(g) => {
-            work::clear(table, g.pairs);
+            entries::clear(table, g.pairs);
             Cleared::Done
         }
     }
@@ -83,16 +77,16 @@ fn lift_in(g: Arena, marks: &[u8], moves: &[u8], table: &mut [u32], position: us
     ensures { λ r. ⌜ ofLifted r ≡ lifted (gameIn g (now (marks .entry)) (now (moves .entry))) (now (table .entry)) position .answer ⌝ }
     ensures { λ r. ⌜ now (table .exit) ≡ lifted (gameIn g (now (marks .entry)) (now (moves .entry))) (now (table .entry)) position .left ⌝ }
 {
-    let above = work::first_above(&table[..], g.top);
+    let above = entries::first_above(&table[..], g.top);
     if above < table.len() {
         return Lifted::Refused(Refusal::AboveCeiling(above));
     }
     if table.len() <= position {
         return Lifted::Refused(Refusal::PositionNumber);
     }
-    let mut begins = [0usize; index::KEYS];
-    index::fill(g.states, g.letters, moves, &mut begins[..]);
-    let rose = work::lift(g, marks, moves, &begins[..], table, position);
+    let mut begins = [0usize; asks::index::KEYS];
+    asks::index::fill(g.states, g.letters, moves, &mut begins[..]);
+    let rose = entries::lift(g, marks, moves, &begins[..], table, position);
     if rose == 1 {
         return Lifted::Rose;
     }
@@ -115,13 +109,13 @@ fn rest_in(g: Arena, marks: &[u8], moves: &[u8], table: &[u32]) -> Rested
     requires { ⌜ Ready g (now marks) (now moves) (now table) ⌝ }
     ensures { λ r. ⌜ ofRested r ≡ rested (gameIn g (now (marks .entry)) (now (moves .entry))) (now (table .entry)) ⌝ }
 {
-    let above = work::first_above(table, g.top);
+    let above = entries::first_above(table, g.top);
     if above < table.len() {
         return Rested::Refused(Refusal::AboveCeiling(above));
     }
-    let mut begins = [0usize; index::KEYS];
-    index::fill(g.states, g.letters, moves, &mut begins[..]);
-    let restless = work::first_restless(g, marks, moves, &begins[..], table);
+    let mut begins = [0usize; asks::index::KEYS];
+    asks::index::fill(g.states, g.letters, moves, &mut begins[..]);
+    let restless = entries::first_restless(g, marks, moves, &begins[..], table);
     if restless < table.len() {
         return Rested::Restless(restless);
     }
@@ -146,6 +140,6 @@ fn settle_in(g: Arena, marks: &[u8], moves: &[u8], table: &mut [u32]) -> usize
     ensures { λ r. ⌜ r ≡ settle (gameIn g (now (marks .entry)) (now (moves .entry))) .raised ⌝ }
     ensures { λ r. ⌜ now (table .exit) ≡ settle (gameIn g (now (marks .entry)) (now (moves .entry))) .table ⌝ }
 {
-    work::clear(table, g.pairs);
+    entries::clear(table, g.pairs);
     rounds::settle(g, marks, moves, table)
 }

@@ -15,9 +15,9 @@ use Rattle.automaton.specs.Effect.{Refuses}
 use Rattle.automaton.proofs.Effects.{does-number, does-refuse, always, alone}
 use Rattle.automaton.proofs.Fault.{Line as LineOf, found, AllNone, all-none, fails-line, failsAt-line, _then_, end, table-line}
 use Rattle.automaton.proofs.Sound.{automaton-line, mode-line}
-use Rattle.text.specs.declared.line.Line.{Line}
+use Rattle.lines.specs.declared.line.Line.{Line}
+use Rattle.lines.specs.Lines.{linesOf}
 use Rattle.text.specs.Calls.{Lent, shortFault, held, reading, Roomy}
-use Rattle.text.specs.Lines.{linesOf}
 use Rattle.text.specs.Order.{misplaced, formFault}
 use Rattle.text.specs.Text.{head, mode, accepts, moves, boardIn, stray, programStates, programLetters, programBytes, lineFaults, textFault, Legible}
 use Rattle.text.proofs.Effects.{lines-fault, long-fault}

@@ -10,8 +10,8 @@ use Rattle.automaton.specs.declared.Refusal.{Refusal}
 use Rattle.automaton.specs.declared.Refusal.the-variants.{OutputLength, TooLong}
 use Rattle.automaton.specs.Answer.{Fault, none, fault, fails, firstFault, refused}
 use Rattle.automaton.specs.Effect.{Effect, does}
+use Rattle.lines.specs.Lines.{linesOf}
 use Rattle.text.specs.Calls.{Lent, shortFault, before, held, reading}
-use Rattle.text.specs.Lines.{linesOf}
 use Rattle.text.specs.Text.{head, marks, moves, programBytes, lineFaults, textFault}
 
 module _ (text : List ℕ) where

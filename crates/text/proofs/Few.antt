@@ -10,7 +10,7 @@ use lib.Dec.{ltb}
 use lib.ListN.{length}
 use Rattle.automaton.specs.Answer.{none, firstFault}
 use Rattle.automaton.specs.Board.{from, letter, to, Above}
-use Rattle.text.specs.declared.line.Line.{Line}
+use Rattle.lines.specs.declared.line.Line.{Line}
 use Rattle.text.specs.Text.{moves, lineFaults}
 use Rattle.text.proofs.Sound.{moves-three, text-formed, text-small}
 

@@ -8,14 +8,14 @@ use lib.Seq.{take-at, drop-at}
 use borrow.Rule.Slice.PartMut.{midOf, postOf, putMid, post-is, mid-len}
 use Rattle.fields.specs.Bytes.{laid, stop}
 use Rattle.fields.proofs.Laid.{laid-none, stop-none, then-laid}
-use Rattle.text.specs.declared.line.Line.{Line}
-use Rattle.text.specs.declared.reader.Read.{Read}
-use Rattle.text.specs.Lines.{linesOf}
+use Rattle.lines.specs.declared.line.Line.{Line}
+use Rattle.lines.specs.declared.reader.Read.{Read}
+use Rattle.lines.specs.Lines.{linesOf}
+use Rattle.lines.specs.Reader.{readAt}
+use Rattle.lines.proofs.Pieces.{lines-end}
 use Rattle.text.specs.Text.{accepts, acceptsIn, moves, movesIn, marked}
 use Rattle.text.specs.Calls.{before}
-use Rattle.text.specs.Reader.{readAt}
 use Rattle.text.specs.Fill.{bytes}
-use Rattle.text.proofs.Pieces.{lines-end}
 use Rattle.text.proofs.Steps.{lines-read}
 
 -- a line that is no move lays nothing

@@ -11,8 +11,8 @@ use Rattle.automaton.specs.declared.Refusal.the-variants.{LineForm}
 use Rattle.automaton.specs.Answer.{none, fault}
 use Rattle.automaton.specs.First.{first}
 use Rattle.automaton.proofs.First.{Lowest, first-lowest, first-none}
-use Rattle.text.specs.declared.line.Line.{Line}
-use Rattle.text.specs.declared.line.Line.the-variants as line
+use Rattle.lines.specs.declared.line.Line.{Line}
+use Rattle.lines.specs.declared.line.Line.the-variants as line
 use Rattle.text.specs.declared.survey.Survey.{Survey}
 use Rattle.text.specs.declared.survey.Surveyed.the-variants.{Whole, Broken}
 use Rattle.text.specs.Order.{order, stands, misplacedAfter, misplaced, formFault}

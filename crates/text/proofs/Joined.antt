@@ -6,7 +6,7 @@ use native.Mathlib.Omega.{arith}
 use Rattle.automaton.specs.declared.Refusal.the-variants.{LineForm}
 use Rattle.automaton.specs.Answer.{Fault, fault, firstFault}
 use Rattle.automaton.specs.First.{first}
-use Rattle.text.specs.declared.line.Line.{Line}
+use Rattle.lines.specs.declared.line.Line.{Line}
 use Rattle.text.specs.declared.survey.Survey.{Survey}
 use Rattle.text.specs.declared.survey.Surveyed.the-variants.{Whole, Broken}
 use Rattle.text.specs.Survey.{blank, headedBy, surveyed, judgements}

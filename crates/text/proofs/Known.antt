@@ -13,8 +13,8 @@ use Rattle.automaton.specs.Board.{above, outside, unsorted}
 use Rattle.automaton.specs.First.{first}
 use Rattle.automaton.proofs.First.{first-more, first-same}
 use Rattle.automaton.proofs.Sound.{leb-not}
-use Rattle.text.specs.declared.line.Line.{Line}
-use Rattle.text.specs.declared.line.Line.the-variants as line
+use Rattle.lines.specs.declared.line.Line.{Line}
+use Rattle.lines.specs.declared.line.Line.the-variants as line
 use Rattle.text.specs.declared.survey.Survey.{Survey}
 use Rattle.text.specs.Survey.{reached, acceptedBy, movedBy}
 use Rattle.text.specs.Text.{modeAfter, accepts, moves, stray}

@@ -1,5 +1,3 @@
-pub mod Pieces
-pub mod Words
 pub mod Steps
 pub mod Filled
 pub mod Form

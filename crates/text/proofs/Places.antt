@@ -12,15 +12,15 @@ use Rattle.automaton.specs.Answer.{placeOf, fault, failsAt, firstFault}
 use Rattle.automaton.specs.Board.{outside, unsorted}
 use Rattle.automaton.specs.Limits.{mostStates, mostLetters, nameOf, isUnknown}
 use Rattle.automaton.proofs.Fault.{UpTo, fault-to, fails-to, failsAt-to, table-to}
-use Rattle.text.specs.declared.line.Line.{Line}
-use Rattle.text.specs.declared.line.Line.the-variants as line
+use Rattle.lines.specs.declared.line.Line.{Line}
+use Rattle.lines.specs.declared.line.Line.the-variants as line
 use Rattle.fields.proofs.Tests.{by-test}
-use Rattle.text.specs.Lines.{linesOf}
+use Rattle.lines.specs.Lines.{linesOf}
+use Rattle.lines.specs.Reader.{readAt}
+use Rattle.lines.proofs.Pieces.{lines-next, lines-end, past-more}
 use Rattle.text.specs.Order.{misplaced, formFault}
-use Rattle.text.specs.Reader.{readAt}
 use Rattle.text.specs.Text.{head, mode, accepts, moves, stray, programStates, programLetters, programBytes, lineFaults, textFault}
 use Rattle.text.proofs.Effects.{long-fault, lines-fault}
-use Rattle.text.proofs.Pieces.{lines-next, lines-end, past-more}
 
 -- ---- no more lines than bytes
 

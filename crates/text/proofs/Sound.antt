@@ -16,8 +16,8 @@ use Rattle.automaton.specs.Board.{Formed}
 use Rattle.automaton.specs.Check.{high, marksFault, modeFault, faults, automatonFault}
 use Rattle.automaton.proofs.Fault.{AllNone, all-none, fails-line, failsAt-line}
 use Rattle.automaton.proofs.Sound.{automaton-line}
-use Rattle.text.specs.declared.line.Line.{Line}
-use Rattle.text.specs.declared.line.Line.the-variants as line
+use Rattle.lines.specs.declared.line.Line.{Line}
+use Rattle.lines.specs.declared.line.Line.the-variants as line
 use Rattle.text.specs.Fill.{bytes}
 use Rattle.text.proofs.Filled.{marked-length}
 use Rattle.text.specs.Text.{head, mode, accepts, moves, marked, marks, boardIn, programStates, programLetters, lineFaults}

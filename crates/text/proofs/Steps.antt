@@ -8,16 +8,16 @@ use native.Mathlib.Omega.{arith}
 use lib.Dec.{eqb, ltb}
 use lib.ListN.{length, drop}
 use borrow.Author.Tests.{eq-eqb, ne-eqb}
-use Rattle.text.specs.declared.line.Line.{Line}
-use Rattle.text.specs.declared.line.Line.the-variants as line
-use Rattle.text.specs.declared.reader.Read.{Read}
+use Rattle.lines.specs.declared.line.Line.{Line}
+use Rattle.lines.specs.declared.line.Line.the-variants as line
+use Rattle.lines.specs.declared.reader.Read.{Read}
+use Rattle.lines.specs.Lines.{linesOf}
+use Rattle.lines.specs.Reader.{readAt}
+use Rattle.lines.proofs.Pieces.{lines-next, lines-end, past-more, past-most}
 use Rattle.text.specs.declared.survey.Survey.{Survey}
 use Rattle.text.specs.declared.survey.Surveyed.the-variants.{Whole, Broken}
-use Rattle.text.specs.Lines.{linesOf}
 use Rattle.text.specs.Order.{order, repeats, stands}
-use Rattle.text.specs.Reader.{readAt}
 use Rattle.text.specs.Survey.{Few, taken, surveyed}
-use Rattle.text.proofs.Pieces.{lines-next, lines-end, past-more, past-most}
 
 -- after another line, of whatever rank
 pub stands-after : (before : ℕ) (l : Line) → (before ≡ 0 → ⊥) → stands before l ≡ (ltb before (order l) || (eqb before (order l) && repeats l))

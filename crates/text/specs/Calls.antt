@@ -7,10 +7,10 @@ use lib.ListN.{length, drop}
 use Rattle.automaton.specs.declared.Refusal.the-variants.{OutputLength}
 use Rattle.automaton.specs.Answer.{Answer, Fault, fails, firstFault}
 use Rattle.automaton.specs.Effect.{Effect, does}
-use Rattle.text.specs.declared.line.Line.{Line}
+use Rattle.lines.specs.declared.line.Line.{Line}
+use Rattle.lines.specs.Lines.{linesOf}
 use Rattle.text.specs.declared.Reading.the-variants.{Held}
 use Rattle.text.specs.Answers.{ofReading}
-use Rattle.text.specs.Lines.{linesOf}
 use Rattle.text.specs.Text.{head, mode, marks as marksOf, moves as movesOf, textFault}
 
 -- what is lent for the marks and for the moves

@@ -7,7 +7,7 @@ use lib.ListN.{replicate}
 use Rattle.automaton.specs.declared.Automaton.{Automaton}
 use Rattle.automaton.specs.Answer.{Answer, none, accepted, unless}
 use Rattle.fields.specs.Bytes.{bytesOf}
-use Rattle.text.specs.Lines.{linesOf}
+use Rattle.lines.specs.Lines.{linesOf}
 use Rattle.text.specs.Text.{head, mode, accepts, moves, textFault}
 
 -- the automaton, its mode, the states that accept lines name, and the numbers of the moves

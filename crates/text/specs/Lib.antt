@@ -3,7 +3,6 @@ pub mod Order
 pub mod Text
 pub mod Answers
 pub mod Calls
-pub mod Reader
 pub mod Survey
 pub mod Fill
 pub mod Cases

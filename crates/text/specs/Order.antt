@@ -6,8 +6,8 @@ use lib.Dec.{eqb, ltb}
 use lib.ListN.{length, getD}
 use Rattle.automaton.specs.declared.Refusal.the-variants.{LineForm}
 use Rattle.automaton.specs.Answer.{Fault, fault, failsAt}
-use Rattle.text.specs.declared.line.Line.{Line}
-use Rattle.text.specs.declared.line.Line.the-variants as line
+use Rattle.lines.specs.declared.line.Line.{Line}
+use Rattle.lines.specs.declared.line.Line.the-variants as line
 
 -- a line's rank in the order of the kinds, 0 for one of wrong form
 abbrev pub order : Line → ℕ

@@ -8,8 +8,8 @@ use Rattle.automaton.specs.declared.Refusal.the-variants.{Marks, Start, Outside
 use Rattle.automaton.specs.Answer.{Fault, fails}
 use Rattle.automaton.specs.Board.{above}
 use Rattle.automaton.specs.Check.{statesFault, lettersFault, modeFault}
-use Rattle.text.specs.declared.line.Line.{Line}
-use Rattle.text.specs.declared.line.Line.the-variants as line
+use Rattle.lines.specs.declared.line.Line.{Line}
+use Rattle.lines.specs.declared.line.Line.the-variants as line
 use Rattle.text.specs.declared.survey.Survey.{Survey}
 use Rattle.text.specs.declared.survey.Surveyed.{Surveyed}
 use Rattle.text.specs.declared.survey.Surveyed.the-variants.{Whole, Broken}

@@ -13,9 +13,9 @@ use Rattle.automaton.specs.Answer.{Fault, fails, failsAt, firstFault}
 use Rattle.automaton.specs.Board.{Board, Formed, boardOf, outside, unsorted}
 use Rattle.automaton.specs.Check.{statesFault, lettersFault, modeFault}
 use Rattle.automaton.specs.Limits.{nameOf}
-use Rattle.text.specs.declared.line.Line.{Line}
-use Rattle.text.specs.declared.line.Line.the-variants as line
-use Rattle.text.specs.Lines.{linesOf}
+use Rattle.lines.specs.declared.line.Line.{Line}
+use Rattle.lines.specs.declared.line.Line.the-variants as line
+use Rattle.lines.specs.Lines.{linesOf}
 use Rattle.text.specs.Order.{misplaced, formFault}
 
 -- ---- the numbers

@@ -3,12 +3,12 @@ ghost use mathlib.Core.Path.{_≡_};
 ghost use lib.ListN.{length, replicate};
 ghost use Prim.Native.Nat.{_≤_};
 ghost use Rattle.fields.specs.Bytes.{laid, stop};
-ghost use Rattle.text.specs.Lines.{linesOf};
+ghost use Rattle.lines.specs.Lines.{linesOf};
 ghost use Rattle.text.specs.Text.{accepts, acceptsIn, marked, marks as marks-of, moves as moves-of, movesIn};
 ghost use Rattle.text.specs.Calls.{before};
 ghost use Rattle.text.specs.Fill.{bytes};
-use super::line::Line;
-use super::reader;
+use lines::line::Line;
+use lines::reader;
 
 // Writes the marks of all states and the moves of a text.
 pub fn write(text: &[u8], states: usize, marks: &mut [u8], moves: &mut [u8])

@@ -1,7 +1,5 @@
 // The text of an automaton: `read` gives the automaton, its mode, its marks and its moves, or says why it cannot.
 mod fill; // fill.rt: the marks and the moves, put into lent buffers
-mod line; // line.rt: one line and what it says
-mod reader; // reader.rt: the text and the place to which it is read
 mod survey; // survey.rt: what all lines say, and the first faults among them
 
 ghost use mathlib.Core.Path.{_≡_};

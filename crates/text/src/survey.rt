@@ -2,11 +2,11 @@
 ghost use mathlib.Core.Path.{_≡_};
 ghost use Prim.Native.Nat.{_≤_};
 ghost use lib.ListN.{length};
-ghost use Rattle.text.specs.Lines.{linesOf};
+ghost use Rattle.lines.specs.Lines.{linesOf};
 ghost use Rattle.text.specs.Order.{order as order-of, repeats as repeats-of, stands as stands-of};
 ghost use Rattle.text.specs.Survey.{Few, most, reached as reached-of, acceptedBy, movedBy, taken, surveyed, blank as blank-of};
-use super::line::Line;
-use super::reader;
+use lines::line::Line;
+use lines::reader;
 
 // The numbers that the lines so far say. `strayed`, `outside` and `unsorted` count the lines before the first at fault.
 pub struct Survey {

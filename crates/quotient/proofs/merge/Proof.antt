@@ -12,13 +12,13 @@ use Rattle.automaton.specs.Board.{Board, Formed}
 use Rattle.simulation.specs.Quotient.{padded, classOf, classCount, classBytes, classMarks, markBytes, classMoves, moveBytes}
 use Rattle.arena.specs.Arena.{boardIn}
 use Rattle.quotient.specs.Calls.{buffers, counted}
-use Rattle.quotient.specs.Writing.{Imaged, markIn, mostTriples, Seen, triplesIn}
-use Rattle.quotient.proofs.Bytes.{bytes-length, marks-are, imaged, triples-are, class-at}
+use Rattle.classing.specs.Writing.{Imaged, markIn, mostTriples, Seen, triplesIn}
+use Rattle.classing.proofs.Bytes.{bytes-length, marks-are, imaged, triples-are, class-at}
 use Rattle.laws.proofs.Fewer.{moves-fewer}
 use Rattle.laws.proofs.Quotient.{classes-most}
-use Rattle.quotient.proofs.Lists.{padded-tail}
+use Rattle.classing.proofs.Lists.{padded-tail}
 use Rattle.arena.proofs.Seats.{seated}
-use Rattle.quotient.proofs.Bare.{bare-bytes, bare-count}
+use Rattle.classing.proofs.Bare.{bare-bytes, bare-count}
 use Rattle.quotient.proofs.merge.Statement.{statement}
 use Rattle.quotient.proofs.merge.Tie as tie
 

@@ -16,10 +16,10 @@ use Rattle.simulation.specs.Position.{Position, spoiler, duplicator, spoilerAt,
 use Rattle.simulation.specs.Rules.{ceiling}
 use Rattle.simulation.proofs.Position.{spoilers-turn, duplicators-turn, position-fits}
 use Rattle.arena.specs.Arena.{boardIn}
-use Rattle.relation.specs.declared.best.Best.{Best}
-use Rattle.relation.specs.declared.best.Best.the-variants.{Nothing}
-use Rattle.relation.specs.Best.{bestOf}
-use Rattle.relation.proofs.Scanned.{answered, scanned}
+use Rattle.verdicts.specs.declared.best.Best.{Best}
+use Rattle.verdicts.specs.declared.best.Best.the-variants.{Nothing}
+use Rattle.verdicts.specs.Best.{bestOf}
+use Rattle.verdicts.proofs.Scanned.{answered, scanned}
 use Rattle.relation.proofs.reply_at.Statement.{statement}
 use Rattle.relation.proofs.reply_at.Tie as tie
 

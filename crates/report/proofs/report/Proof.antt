@@ -8,11 +8,10 @@ use lib.ListN.{length, take, drop, length-replicate}
 use Rattle.automaton.specs.declared.Automaton.{Automaton}
 use Rattle.automaton.specs.Answer.{none}
 use Rattle.automaton.specs.Effect.{Effect}
-use Rattle.text.specs.declared.line.Line.{Line}
 use Rattle.text.specs.declared.Reading.the-variants.{Held}
 use Rattle.text.specs.Answers.{ofReading}
 use Rattle.text.specs.Calls.{Lent, before, reading}
-use Rattle.text.specs.Lines.{linesOf}
+use Rattle.text.specs.Lines.{Line, linesOf}
 use Rattle.text.specs.Text.{head, mode, marks, moves, textFault, Legible}
 use Rattle.text.proofs.Accepted.{text-line}
 use Rattle.text.proofs.Sound.{moves-three, marks-length}

@@ -4,7 +4,7 @@ use borrow.Author.Needs.{needs}
 use Rattle.automaton.specs.Limits.{mostStates, mostLetters}
 use Rattle.arena.specs.Arena.{boardIn}
 use Rattle.halves.proofs.Drawing.{zeros-empty}
-use Rattle.rounds.proofs.Room.{words-most, blank-zeros, equipped-first}
+use Rattle.rounds.proofs.Lent.{words-most, blank-zeros, equipped-first}
 use Rattle.rounds.proofs.settle.Statement.{statement}
 use Rattle.rounds.proofs.settle.Tie as tie
 

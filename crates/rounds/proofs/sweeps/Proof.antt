@@ -9,20 +9,20 @@ use Rattle.games.specs.Lift.{bound}
 use Rattle.games.proofs.Raises.{total}
 use Rattle.games.proofs.Sweeping.{Sweeping, sweeping-none, sweeping-raised}
 use Rattle.arena.specs.Arena.{boardIn, gameIn}
-use Rattle.rounds.specs.Poised.{Poised}
-use Rattle.rounds.proofs.Room.{Lists, lists, Alike, alike-none, alike-more, equipped-again}
+use Rattle.sweep.specs.Poised.{Poised}
+use Rattle.sweep.proofs.Room.{Lists, lists, Alike, alike-none, alike-more, equipped-again}
 use Rattle.rounds.proofs.Onward.{onward, onward-less, onward-done, bound-most}
 use Rattle.rounds.proofs.sweeps.Statement.{statement}
 use Rattle.rounds.proofs.sweeps.Tie as tie
 
 abbrev Inv-loop : tie.InvT-loop
-Inv-loop g marks moves acc into onto table₀ risen₀ rows₀ olds₀ grown₀ columns₀ raised₀ table risen rows olds grown columns raised =
+Inv-loop g marks moves acc into onto table₀ risen₀ rows₀ olds₀ grown₀ columns₀ raised₀ last₀ table risen rows olds grown columns raised last =
     Alike (lists table₀ risen₀ rows₀ olds₀ grown₀ columns₀) (lists table risen rows olds grown columns)
     × Poised (boardIn g marks moves) (g .mode) table risen grown columns
     × Sweeping (gameIn g marks moves) raised table
 
 abbrev μ-loop : tie.MeasureT-loop
-μ-loop g marks moves acc into onto table₀ risen₀ rows₀ olds₀ grown₀ columns₀ raised₀ table risen rows olds grown columns raised = bound (gameIn g marks moves) - total table
+μ-loop g marks moves acc into onto table₀ risen₀ rows₀ olds₀ grown₀ columns₀ raised₀ last₀ table risen rows olds grown columns raised last = bound (gameIn g marks moves) - total table
 
 -- ---- the first sweep
 

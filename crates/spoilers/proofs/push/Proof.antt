@@ -14,7 +14,7 @@ use Rattle.spoilers.proofs.Parts.{pushed-then, working-kept, raising-mo
 use Rattle.spoilers.proofs.Pushes.{layered-kept}
 use Rattle.spoilers.proofs.Through.{Upto, upto-start, upto-more}
 use Rattle.spoilers.proofs.Whole.{all-spoiling, whole}
-use Rattle.spoilers.proofs.Calms.{working-start, calm-covered}
+use Rattle.spoilers.proofs.Calms.{working-start, calm-floor, calm-covered}
 use Rattle.spoilers.proofs.push.Statement.{statement}
 use Rattle.spoilers.proofs.push.Tie as tie
 
@@ -46,8 +46,8 @@ module _ (l : tie.At-loop Inv-loop μ-loop) where
   begins =
       let a = start .args in
       let p = start .pre in
-      working-start (a .g) (a .marks .now) (a .moves .now) (a .table .now) (a .risen .now) (a .rows .now) (a .olds .now) (a .grown .now) (a .columns .now)
-      (p .0) (p .1 .1 .1 .1 .0) (p .1 .1 .1 .1 .1 .0) (p .1 .1 .1 .1 .1 .1 .0) (p .1 .1 .1 .1 .1 .1 .1)
+      working-start (a .g) (a .marks .now) (a .moves .now) (a .table .now) (a .risen .now) (a .rows .now) (a .olds .now)
+      (p .0) (p .1 .1 .1 .1 .0) (p .1 .1 .1 .1 .1 .0) (calm-floor B (a .g .mode) (a .table .now) (a .grown .now) (a .columns .now) (p .1 .1 .1 .1 .1 .1 .0)) (p .1 .1 .1 .1 .1 .1 .1)
 
   works : Working (start .args .g) (start .args .marks .now) (start .args .moves .now) s
   works = working-kept begins (l .loop .inv .1 .pushed) (l .loop .inv .1 .sized)

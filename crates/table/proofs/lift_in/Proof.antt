@@ -9,9 +9,10 @@ use Rattle.games.specs.Game.{Game}
 use Rattle.automaton.specs.Answer.{valued, none}
 use Rattle.automaton.specs.First.{first}
 use Rattle.arena.specs.Arena.{boardIn, gameIn}
-use Rattle.table.specs.Calls.{above, entryFault, lifted}
+use Rattle.asks.proofs.Keys.{indexable}
+use Rattle.entries.specs.Found.{above}
+use Rattle.table.specs.Calls.{entryFault, lifted}
 use Rattle.table.proofs.Effects.{above-found, above-none, lifted-above, lifted-out, lifted-in}
-use Rattle.table.proofs.Keys.{indexable}
 use Rattle.automaton.proofs.Effects.{both}
 use Rattle.table.proofs.lift_in.Statement.{statement}
 use Rattle.table.proofs.lift_in.Tie as tie

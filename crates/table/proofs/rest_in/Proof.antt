@@ -9,9 +9,10 @@ use lib.ListN.{length}
 use Rattle.games.specs.Game.{Game}
 use Rattle.automaton.specs.First.{first}
 use Rattle.arena.specs.Arena.{boardIn, gameIn}
-use Rattle.table.specs.Calls.{above, restless, restAt, rested}
+use Rattle.asks.proofs.Keys.{indexable}
+use Rattle.entries.specs.Found.{above, restless}
+use Rattle.table.specs.Calls.{restAt, rested}
 use Rattle.table.proofs.Effects.{above-found, above-none, rested-above, rested-at}
-use Rattle.table.proofs.Keys.{indexable}
 use Rattle.table.proofs.rest_in.Statement.{statement}
 use Rattle.table.proofs.rest_in.Tie as tie
 

@@ -13,10 +13,10 @@ use Rattle.automaton.specs.Effect.{Effect}
 use Rattle.automaton.proofs.One.{checked-none, checked-fault}
 use Rattle.fields.specs.Bytes.{laid}
 use Rattle.fields.proofs.Laid.{laid-whole}
-use Rattle.text.specs.declared.line.Line.{Line}
+use Rattle.lines.specs.declared.line.Line.{Line}
+use Rattle.lines.specs.Lines.{linesOf}
 use Rattle.text.specs.declared.survey.Survey.{Survey}
 use Rattle.text.specs.Calls.{Lent, lentOf, before, reading}
-use Rattle.text.specs.Lines.{linesOf}
 use Rattle.text.specs.Survey.{judgements}
 use Rattle.text.specs.Text.{marks as marks-of, moves as moves-of, lineFaults, textFault}
 use Rattle.text.proofs.Effects.{long-fault, lines-fault, reading-refused, reading-few-marks, reading-few-moves, reading-done}

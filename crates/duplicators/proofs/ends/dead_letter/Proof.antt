@@ -4,8 +4,8 @@ use Prim.Native.Nat.{ℕ, _+_, _*_, _-_, _≤_, _<_}
 use native.Mathlib.Omega.{arith}
 use borrow.Author.Needs.{needs}
 use lib.ListN.{length}
+use Rattle.levels.proofs.Cells.{cell-below, cells-few}
 use Rattle.duplicators.specs.Ends.{Dead}
-use Rattle.duplicators.proofs.Bounds.{cell-below, cells-few}
 use Rattle.duplicators.proofs.Ending.{dead-start, dead-more}
 use Rattle.duplicators.proofs.ends.dead_letter.Statement.{statement}
 use Rattle.duplicators.proofs.ends.dead_letter.Tie as tie

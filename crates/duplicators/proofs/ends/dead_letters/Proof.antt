@@ -7,8 +7,8 @@ use lib.ListN.{length, length-set}
 use Rattle.games.specs.Game.{at}
 use Rattle.words.specs.Word.{In}
 use Rattle.words.proofs.Sets.{joined-in-left, joined-in-right}
+use Rattle.levels.proofs.Stored.{stored}
 use Rattle.duplicators.specs.Ends.{Dead}
-use Rattle.duplicators.proofs.Stored.{stored}
 use Rattle.duplicators.proofs.ends.dead_letters.Statement.{statement}
 use Rattle.duplicators.proofs.ends.dead_letters.Tie as tie
 

@@ -10,7 +10,7 @@ use Rattle.games.specs.Game.{at}
 use Rattle.simulation.specs.Position.{layers}
 use Rattle.simulation.specs.Rules.{eased}
 use Rattle.simulation.proofs.Inward.{eased-lt}
-use Rattle.duplicators.specs.Candidates.{Fresh}
+use Rattle.duplicators.specs.Fresh.{Fresh}
 use Rattle.duplicators.specs.Rows.{RowStill, RowStirred}
 use Rattle.duplicators.proofs.Bounds.{row-few}
 use Rattle.duplicators.proofs.Part.{part-none}

@@ -5,7 +5,7 @@ use native.Mathlib.Omega.{arith}
 use borrow.Author.Needs.{needs}
 use Rattle.automaton.specs.Board.{Board}
 use Rattle.arena.specs.Arena.{boardIn}
-use Rattle.duplicators.specs.Lows.{AllWithin}
+use Rattle.levels.specs.Lows.{AllWithin}
 use Rattle.duplicators.specs.Rows.{RowFound}
 use Rattle.duplicators.proofs.Found.{found-within, found-row, found-covers, row-done}
 use Rattle.duplicators.proofs.rows.answer_row.Statement.{statement}

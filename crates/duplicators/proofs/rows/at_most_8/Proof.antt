@@ -3,7 +3,7 @@ use Prim.Native.Nat.{_-_, _≤_}
 use native.Mathlib.Omega.{arith}
 use borrow.Author.Needs.{needs}
 use borrow.Author.Tests.{leb-true}
-use Rattle.duplicators.proofs.Peeling.{digits-most}
+use Rattle.levels.proofs.Peeling.{digits-most}
 use Rattle.duplicators.proofs.rows.at_most_8.Statement.{statement}
 use Rattle.duplicators.proofs.rows.at_most_8.Tie as tie
 

@@ -5,8 +5,8 @@ use native.Mathlib.Omega.{arith}
 use borrow.Author.Tests.{ltb-false}
 use borrow.Author.Needs.{needs}
 use Rattle.words.specs.Word.{Pop}
+use Rattle.levels.proofs.Seeking.{Seeking, seek-start, seek-more, seek-end, seek-past}
 use Rattle.duplicators.specs.Rows.{seenIn}
-use Rattle.duplicators.proofs.Seeking.{Seeking, seek-start, seek-more, seek-end, seek-past}
 use Rattle.duplicators.proofs.scans.low_scan.Statement.{statement}
 use Rattle.duplicators.proofs.scans.low_scan.Tie as tie
 

@@ -11,10 +11,10 @@ use Rattle.simulation.specs.Position.{duplicator, number}
 use Rattle.simulation.specs.Rules.{ceiling}
 use Rattle.simulation.proofs.Limits.{positions-most}
 use Rattle.halves.proofs.Places.{duplicator-within}
-use Rattle.duplicators.specs.Lows.{LowPast}
+use Rattle.levels.specs.Lows.{LowPast}
+use Rattle.levels.proofs.Cells.{cell-below, cells-few}
 use Rattle.duplicators.specs.Rows.{seenIn}
 use Rattle.duplicators.proofs.Asking.{low-past, seen-same, row-seats, steps-within}
-use Rattle.duplicators.proofs.Bounds.{cell-below, cells-few}
 use Rattle.duplicators.proofs.scans.scan_one.Statement.{statement}
 use Rattle.duplicators.proofs.scans.scan_one.Tie as tie
 

@@ -5,8 +5,8 @@ use native.Mathlib.Omega.{arith}
 use borrow.Author.Needs.{needs}
 use lib.ListN.{length, length-set}
 use Rattle.games.specs.Game.{at}
+use Rattle.levels.proofs.Stored.{stored}
 use Rattle.duplicators.specs.Rows.{Gathered, AtMost, seenIn}
-use Rattle.duplicators.proofs.Stored.{stored}
 use Rattle.duplicators.proofs.Gathering.{at-most-start, at-most-more}
 use Rattle.duplicators.proofs.seats.gather.Statement.{statement}
 use Rattle.duplicators.proofs.seats.gather.Tie as tie

@@ -4,7 +4,7 @@ use Prim.Native.Nat.{_+_, _*_, _<_, max}
 use native.Mathlib.Omega.{arith}
 use borrow.Author.Needs.{needs}
 use lib.ListN.{length}
-use Rattle.duplicators.proofs.Bounds.{cell-below, cells-few}
+use Rattle.levels.proofs.Cells.{cell-below, cells-few}
 use Rattle.duplicators.proofs.told.level_one.Statement.{statement}
 use Rattle.duplicators.proofs.told.level_one.Tie as tie
 

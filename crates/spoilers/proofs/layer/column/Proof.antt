@@ -9,7 +9,7 @@ use Rattle.halves.specs.Rising.{Rising, rising}
 use Rattle.spoilers.specs.Work.{Working}
 use Rattle.spoilers.specs.Front.{Guarded, Lettered}
 use Rattle.spoilers.proofs.Parts.{pushed-none, pushed-then, working-kept, raising-most}
-use Rattle.spoilers.proofs.Pushes.{lettered-kept, column-done, column-idle}
+use Rattle.spoilers.proofs.Pushes.{lettered-kept, column-done, column-still}
 use Rattle.spoilers.proofs.Through.{Upto, upto-start, upto-more}
 use Rattle.spoilers.proofs.layer.column.Statement.{statement}
 use Rattle.spoilers.proofs.layer.column.Tie as tie
@@ -56,8 +56,9 @@ returns c =
     let B = boardIn (start .args .g) (start .args .marks .now) (start .args .moves .now) in
     let w = start .pre .0 in (
       pushed-none B (start .args .g .mode) _,
-      column-idle B (start .args .g .mode) (start .args .grown .now) (start .args .table .now) (w .raising .ready .formed) (w .capped) (w .floor) (made .column-at .ensures)
-          (omega (arith, w .raising .ready .topped, c .if1 .taken)),
+      λ a ha x hx i.
+          column-still B (start .args .g .mode) (start .args .table .now) (w .raising .ready .formed) (w .capped) (w .floor) (made .column-at .ensures)
+          (omega (arith, w .raising .ready .topped, c .if1 .taken)) a x,
     )
 
 loop-holds : tie.Need-loop-holds Inv-loop μ-loop
@@ -116,7 +117,7 @@ returns-2 c =
     let l = c .before in
     let a = start l .args in (
       l .loop .inv .1 .pushed,
-      column-done (B l) (a .g .mode) (a .grown .now) (l .loop .table) (made l .column-at .ensures) (λ i h. l .loop .inv .1 .each i (omega (arith, c .loop-test .left))),
+      column-done (B l) (a .g .mode) (l .loop .table) (a .grown .now) (made l .column-at .ensures) (λ i h. l .loop .inv .1 .each i (omega (arith, c .loop-test .left))),
     )
 
 pub column-spec : {M : Type 1} → statement M

@@ -29,11 +29,11 @@ returns c =
       },
     )
 
-add-requires : tie.Need-add-requires
-add-requires c κs = search needs
+insert-requires : tie.Need-insert-requires
+insert-requires c κs = search needs
 
-add-requires-2 : tie.Need-add-requires-2
-add-requires-2 c κs = search needs
+insert-requires-2 : tie.Need-insert-requires-2
+insert-requires-2 c κs = search needs
 
 lower-requires : tie.Need-lower-requires
 lower-requires c κs = search needs
@@ -58,8 +58,8 @@ returns-2 c =
       refl,
       record {
         out = has-not (at (a .risen .now) (a .i)) (a .r) (test .before .has .ensures) (test .if1 .left);
-        risen = added .add .ensures;
-        rows = rowed .add2 .ensures;
+        risen = added .insert .ensures;
+        rows = rowed .insert2 .ensures;
         olds = lowered .lower .ensures;
       },
     )
@@ -72,8 +72,8 @@ note-spec =
     slice-read-has
     has-requires
     returns
-    add-requires
-    add-requires-2
+    insert-requires
+    insert-requires-2
     lower-requires
     same-length
     same-length-2

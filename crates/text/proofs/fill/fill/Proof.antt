@@ -7,7 +7,7 @@ use lib.ListN.{length, drop}
 use borrow.Author.Needs.{needs}
 use Rattle.fields.specs.Bytes.{laid}
 use Rattle.fields.proofs.Laid.{laid-length}
-use Rattle.text.specs.Lines.{linesOf}
+use Rattle.lines.specs.Lines.{linesOf}
 use Rattle.text.specs.Text.{accepts, acceptsIn, moves as moves-of, movesIn, marked}
 use Rattle.text.specs.Fill.{bytes}
 use Rattle.text.proofs.Steps.{past-further}

@@ -5,7 +5,7 @@ use Prim.Native.Nat.{_%_}
 use borrow.Author.Needs.{needs}
 use Rattle.fields.specs.Bytes.{laid, stop}
 use Rattle.fields.proofs.Laid.{then-stop, then-laid}
-use Rattle.text.specs.declared.line.Line.{Line}
+use Rattle.lines.specs.declared.line.Line.{Line}
 use Rattle.text.specs.Text.{movesIn}
 use Rattle.text.specs.Fill.{bytes}
 use Rattle.text.proofs.Filled.{unmoved}

@@ -2,7 +2,7 @@
 use mathlib.Core.Path.{sym, ap, _∙_}
 use borrow.Author.Needs.{needs}
 use lib.Seq.{set-out}
-use Rattle.text.specs.declared.line.Line.{Line}
+use Rattle.lines.specs.declared.line.Line.{Line}
 use Rattle.text.specs.Text.{acceptsIn, marked}
 use Rattle.text.proofs.fill.mark.Statement.{statement}
 use Rattle.text.proofs.fill.mark.Tie as tie

@@ -1,6 +1,6 @@
 -- `fill::write` meets its contract: the marks of all states lie at the front of their buffer, cleared and then filled, and the moves in theirs.
 use borrow.Author.Needs.{needs}
-use Rattle.text.specs.Lines.{linesOf}
+use Rattle.lines.specs.Lines.{linesOf}
 use Rattle.text.specs.Text.{accepts}
 use Rattle.text.proofs.Filled.{marks-written}
 use Rattle.text.proofs.fill.write.Statement.{statement}

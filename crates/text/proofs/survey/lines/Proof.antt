@@ -6,8 +6,8 @@ use native.Mathlib.Omega.{arith}
 use lib.ListN.{length, drop}
 use borrow.Author.Tests.{not-true, not-false}
 use borrow.Author.Needs.{needs}
+use Rattle.lines.specs.Lines.{linesOf}
 use Rattle.text.specs.declared.survey.Survey.{Survey}
-use Rattle.text.specs.Lines.{linesOf}
 use Rattle.text.specs.Survey.{Few, taken, surveyed, blank}
 use Rattle.text.proofs.Steps.{few-more, past-further, surveyed-on, surveyed-stop, surveyed-none, surveyed-whole}
 use Rattle.text.proofs.survey.lines.Statement.{statement}

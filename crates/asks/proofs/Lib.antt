@@ -1,0 +1,4 @@
+pub mod Bounds
+pub mod Keys
+pub mod Ahead
+pub mod Stretch

@@ -1,0 +1,4 @@
+pub mod Lists
+pub mod Turns
+pub mod Bytes
+pub mod Bare

@@ -1,0 +1,4 @@
+pub mod Between
+pub mod Cleared
+pub mod Room
+pub mod Wiping
