@@ -8,7 +8,7 @@ use native.Mathlib.Nat.{mod-eq-of-lt}
 use native.Mathlib.Omega.{arith}
 use borrow.Author.Tests.{ltb-false, le-ltb, eq-eqb}
 use lib.Dec.{eqb, ltb}
-use lib.ListN.{length, getD, set, replicate, length-set, length-map, length-replicate, List·getD-map}
+use lib.ListN.{length, getD, set, replicate, length-map, length-replicate, List·getD-map}
 use lib.Seq.{ext-getD}
 use Rattle.automaton.specs.declared.Refusal.the-variants.{Marks, Bytes, ProgramLimits}
 use Rattle.automaton.specs.Answer.{none, fails, failsAt, firstFault}

@@ -1,10 +1,10 @@
 -- `automaton::is_outside` meets its contract: at each return the tests before it decide the others of the formula.
-use mathlib.Core.Path.{_≡_, refl, ap, _∙_}
-use mathlib.Core.Bool.{Bool, true, false, _&&_, not}
+use mathlib.Core.Path.{_≡_, ap, _∙_}
+use mathlib.Core.Bool.{_&&_, not}
 use Prim.Native.Nat.{ℕ, _<_}
 use lib.Dec.{ltb, leb}
 use borrow.Author.Needs.{needs}
-use borrow.Author.Tests.{ltb-true, ltb-false, lt-ltb, le-ltb, le-leb, lt-leb}
+use borrow.Author.Tests.{lt-ltb, le-ltb}
 use Rattle.automaton.specs.Board.{to}
 use Rattle.automaton.proofs.Sound.{leb-not}
 use Rattle.automaton.proofs.is_outside.Statement.{statement}
