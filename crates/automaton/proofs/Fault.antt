@@ -10,11 +10,11 @@ use borrow.Author.Tests.{ltb-false, le-ltb}
 use Rattle.automaton.specs.Answer.{Answer, numberOf, Fault, none, fault, fails, failsAt, firstFault, unless}
 use Rattle.automaton.specs.First.{first}
 use Rattle.automaton.specs.declared.Refusal.{Refusal}
-use Rattle.automaton.specs.declared.Refusal.the-variants.{States, Letters, Marks, Start, Bytes, Outside, Unsorted, ModeNumber, TableLength, AboveCeiling, PositionNumber, NotAtRest, SpoilerPosition, LostPosition, NoMove, OutputLength, LineForm, ProgramLimits, TooLong}
+use Rattle.automaton.specs.declared.Refusal.the-variants.{States, Letters, Marks, Start, Bytes, Outside, Unsorted, ModeNumber, TableLength, AboveCeiling, PositionNumber, NotAtRest, SpoilerPosition, LostPosition, NoMove, OutputLength, LineForm, ProgramLimits, TooLong, Foreign, TooDeep}
 use Rattle.automaton.proofs.First.{first-lowest, first-none}
 
--- the refusals have numbers from 1 to 22
-pub refusal-numbered : (r : Refusal) → (0 < numberOf r) × (numberOf r ≤ 22)
+-- the refusals have numbers from 1 to 24
+pub refusal-numbered : (r : Refusal) → (0 < numberOf r) × (numberOf r ≤ 24)
 refusal-numbered States = (omega arith, omega arith)
 refusal-numbered Letters = (omega arith, omega arith)
 refusal-numbered (Marks i) = (omega arith, omega arith)
@@ -34,6 +34,8 @@ refusal-numbered OutputLength = (omega arith, omega arith)
 refusal-numbered (LineForm line) = (omega arith, omega arith)
 refusal-numbered ProgramLimits = (omega arith, omega arith)
 refusal-numbered TooLong = (omega arith, omega arith)
+refusal-numbered (Foreign at) = (omega arith, omega arith)
+refusal-numbered (TooDeep at) = (omega arith, omega arith)
 
 -- a line of the table that finds no fault exactly if P holds
 abbrev pub Line : Fault → Type 0 → Type 0

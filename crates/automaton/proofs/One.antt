@@ -7,7 +7,7 @@ use lib.Dec.{eqb}
 use Rattle.automaton.specs.Answer.{Answer, accepted, refused, numberOf, placeOf, Fault, none, fault, unless}
 use Rattle.automaton.specs.Check.{answerOf}
 use Rattle.automaton.specs.declared.Refusal.{Refusal}
-use Rattle.automaton.specs.declared.Refusal.the-variants.{States, Letters, Marks, Start, Bytes, Outside, Unsorted, ModeNumber, TableLength, AboveCeiling, PositionNumber, NotAtRest, SpoilerPosition, LostPosition, NoMove, OutputLength, LineForm, ProgramLimits, TooLong}
+use Rattle.automaton.specs.declared.Refusal.the-variants.{States, Letters, Marks, Start, Bytes, Outside, Unsorted, ModeNumber, TableLength, AboveCeiling, PositionNumber, NotAtRest, SpoilerPosition, LostPosition, NoMove, OutputLength, LineForm, ProgramLimits, TooLong, Foreign, TooDeep}
 use Rattle.automaton.specs.declared.Checked.{Checked}
 use Rattle.automaton.specs.declared.Checked.the-variants.{Sound, Refused}
 use Rattle.automaton.proofs.Fault.{refusal-numbered, unless-number}
@@ -33,7 +33,9 @@ refusalAt n p =
     (cond (eqb n 16) OutputLength
     (cond (eqb n 20) (LineForm p)
     (cond (eqb n 21) ProgramLimits
-    TooLong)))))))))))))))))
+    (cond (eqb n 22) TooLong
+    (cond (eqb n 23) (Foreign p)
+    (TooDeep p))))))))))))))))))))
 
 refusalAt-is : (r : Refusal) → refusalAt (numberOf r) (placeOf r) ≡ r
 unfolding refusalAt
@@ -56,6 +58,8 @@ refusalAt-is OutputLength = refl
 refusalAt-is (LineForm line) = refl
 refusalAt-is ProgramLimits = refl
 refusalAt-is TooLong = refl
+refusalAt-is (Foreign at) = refl
+refusalAt-is (TooDeep at) = refl
 
 pub one-refusal : (r s : Refusal) → refused r ≡ refused s → r ≡ s
 one-refusal r s e = sym (refusalAt-is r) ∙ ap (λ (a : Answer). refusalAt (a .number) (a .place)) e ∙ refusalAt-is s

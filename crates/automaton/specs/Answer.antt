@@ -6,7 +6,7 @@ use lib.Dec.{ltb}
 use lib.ListN.{getD}
 use Rattle.automaton.specs.First.{first}
 use Rattle.automaton.specs.declared.Refusal.{Refusal}
-use Rattle.automaton.specs.declared.Refusal.the-variants.{States, Letters, Marks, Start, Bytes, Outside, Unsorted, ModeNumber, TableLength, AboveCeiling, PositionNumber, NotAtRest, SpoilerPosition, LostPosition, NoMove, OutputLength, LineForm, ProgramLimits, TooLong}
+use Rattle.automaton.specs.declared.Refusal.the-variants.{States, Letters, Marks, Start, Bytes, Outside, Unsorted, ModeNumber, TableLength, AboveCeiling, PositionNumber, NotAtRest, SpoilerPosition, LostPosition, NoMove, OutputLength, LineForm, ProgramLimits, TooLong, Foreign, TooDeep}
 
 -- A number, a place and values; a call that names fewer than three values has 0 for the others.
 pub record Answer : Type 0 where
@@ -51,6 +51,8 @@ numberOf OutputLength = 16
 numberOf (LineForm line) = 20
 numberOf ProgramLimits = 21
 numberOf TooLong = 22
+numberOf (Foreign at) = 23
+numberOf (TooDeep at) = 24
 
 abbrev pub placeOf : Refusal → ℕ
 placeOf States = 0
@@ -72,6 +74,8 @@ placeOf OutputLength = 0
 placeOf (LineForm line) = line
 placeOf ProgramLimits = 0
 placeOf TooLong = 0
+placeOf (Foreign at) = at
+placeOf (TooDeep at) = at
 
 -- "Every refused call returns its number, a place and values 0"
 abbrev pub refused : Refusal → Answer

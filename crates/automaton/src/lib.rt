@@ -80,6 +80,8 @@ pub enum Refusal {
     LineForm(usize),
     ProgramLimits,
     TooLong,
+    Foreign(usize),
+    TooDeep(usize),
 }
 
 impl Refusal {
@@ -107,6 +109,8 @@ impl Refusal {
             Refusal::LineForm(_) => 20,
             Refusal::ProgramLimits => 21,
             Refusal::TooLong => 22,
+            Refusal::Foreign(_) => 23,
+            Refusal::TooDeep(_) => 24,
         }
     }
 
@@ -134,6 +138,8 @@ impl Refusal {
             Refusal::LineForm(line) => line,
             Refusal::ProgramLimits => 0,
             Refusal::TooLong => 0,
+            Refusal::Foreign(at) => at,
+            Refusal::TooDeep(at) => at,
         }
     }
 }

@@ -1,3 +1,4 @@
+pub mod Same
 pub mod Tests
 pub mod Laid
 pub mod Digits

@@ -1,12 +1,12 @@
 -- "Lines end in a newline; fields are parted by tabs": the lines of a text, and what each says.
-use mathlib.Core.Bool.{Bool, true, false, cond}
+use mathlib.Core.Bool.{cond}
 use mathlib.Core.List.{List, [], _∷_}
 use Prim.Native.Nat.{ℕ}
 use lib.Dec.{eqb}
 use lib.ListN.{length}
 use Rattle.fields.specs.declared.Number.{Number}
 use Rattle.fields.specs.declared.Number.the-variants.{Is, Not}
-use Rattle.fields.specs.Bytes.{bytesOf, newline, tab}
+use Rattle.fields.specs.Bytes.{bytesOf, newline, same, tab}
 use Rattle.fields.specs.Numbers.{numberOf}
 use Rattle.lines.specs.declared.line.Word.{Word}
 use Rattle.lines.specs.declared.line.Word.the-variants as word
@@ -28,13 +28,6 @@ cut b [] = [] ∷ []
 cut b (x ∷ xs) = cond (eqb x b) ([] ∷ cut b xs) (onto x (cut b xs))
 
 -- ---- a line
-
--- are the two the same bytes?
-unfoldable pub same : (xs ys : List ℕ) → Bool
-same [] [] = true
-same [] (y ∷ ys) = false
-same (x ∷ xs) [] = false
-same (x ∷ xs) (y ∷ ys) = cond (eqb x y) (same xs ys) false
 
 -- the word that a field is: `automaton`, `mode`, `accept` or `move`
 unfoldable pub wordOf : (field : List ℕ) → Word

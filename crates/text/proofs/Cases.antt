@@ -2,7 +2,8 @@
 use mathlib.Core.Path.{refl}
 use Rattle.automaton.specs.First.{first}
 use Rattle.fields.specs.Numbers.{digits, numberOf}
-use Rattle.lines.specs.Lines.{cut, same, wordOf, meaning, linesIn, linesOf}
+use Rattle.fields.specs.Bytes.{same}
+use Rattle.lines.specs.Lines.{cut, wordOf, meaning, linesIn, linesOf}
 use Rattle.text.specs.Text.{textFault}
 use Rattle.text.specs.Cases.{AllHold, cases}
 

@@ -5,157 +5,131 @@ use Rattle.automaton.specs.Answer.{placeOf}
 use Rattle.automaton.proofs.Refusal.place.Statement.{statement}
 use Rattle.automaton.proofs.Refusal.place.Tie as tie
 
--- src/lib.rt:118:32
 enum-told : tie.Need-enum-told
 enum-told c = search needs
 
--- src/lib.rt:119:33
 enum-told-2 : tie.Need-enum-told-2
 enum-told-2 c = search needs
 
--- src/lib.rt:120:28
 enum-known-self : tie.Need-enum-known-self
 enum-known-self c = search needs
 
--- src/lib.rt:121:31
 enum-told-3 : tie.Need-enum-told-3
 enum-told-3 c = search needs
 
--- src/lib.rt:122:31
 enum-told-4 : tie.Need-enum-told-4
 enum-told-4 c = search needs
 
--- src/lib.rt:123:30
 enum-known-self-2 : tie.Need-enum-known-self-2
 enum-known-self-2 c = search needs
 
--- src/lib.rt:124:31
 enum-known-self-3 : tie.Need-enum-known-self-3
 enum-known-self-3 c = search needs
 
--- src/lib.rt:125:36
 enum-told-5 : tie.Need-enum-told-5
 enum-told-5 c = search needs
 
--- src/lib.rt:126:37
 enum-told-6 : tie.Need-enum-told-6
 enum-told-6 c = search needs
 
--- src/lib.rt:127:35
 enum-known-self-4 : tie.Need-enum-known-self-4
 enum-known-self-4 c = search needs
 
--- src/lib.rt:128:40
 enum-told-7 : tie.Need-enum-told-7
 enum-told-7 c = search needs
 
--- src/lib.rt:129:32
 enum-known-self-5 : tie.Need-enum-known-self-5
 enum-known-self-5 c = search needs
 
--- src/lib.rt:130:41
 enum-told-8 : tie.Need-enum-told-8
 enum-told-8 c = search needs
 
--- src/lib.rt:131:38
 enum-told-9 : tie.Need-enum-told-9
 enum-told-9 c = search needs
 
--- src/lib.rt:132:32
 enum-told-10 : tie.Need-enum-told-10
 enum-told-10 c = search needs
 
--- src/lib.rt:133:38
 enum-told-11 : tie.Need-enum-told-11
 enum-told-11 c = search needs
 
--- src/lib.rt:134:31
 enum-known-self-6 : tie.Need-enum-known-self-6
 enum-known-self-6 c = search needs
 
--- src/lib.rt:135:39
 enum-told-12 : tie.Need-enum-told-12
 enum-told-12 c = search needs
 
--- src/lib.rt:136:33
 enum-told-13 : tie.Need-enum-told-13
 enum-told-13 c = search needs
 
--- src/lib.rt:114:5
+enum-known-self-7 : tie.Need-enum-known-self-7
+enum-known-self-7 c = search needs
+
+enum-known-self-8 : tie.Need-enum-known-self-8
+enum-known-self-8 c = search needs
+
 returns : tie.Need-returns
 returns c = sym (ap placeOf (c .enum-told .given .1))
 
--- src/lib.rt:114:5
 returns-2 : tie.Need-returns-2
 returns-2 c = sym (ap placeOf (c .enum-told2 .given .1))
 
--- src/lib.rt:114:5
 returns-3 : tie.Need-returns-3
 returns-3 c = sym (ap placeOf (c .before .self .given .1))
 
--- src/lib.rt:114:5
 returns-4 : tie.Need-returns-4
 returns-4 c = sym (ap placeOf (c .enum-told3 .given .1))
 
--- src/lib.rt:114:5
 returns-5 : tie.Need-returns-5
 returns-5 c = sym (ap placeOf (c .enum-told4 .given .1))
 
--- src/lib.rt:114:5
 returns-6 : tie.Need-returns-6
 returns-6 c = sym (ap placeOf (c .before .self2 .given .1))
 
--- src/lib.rt:114:5
 returns-7 : tie.Need-returns-7
 returns-7 c = sym (ap placeOf (c .before .self3 .given .1))
 
--- src/lib.rt:114:5
 returns-8 : tie.Need-returns-8
 returns-8 c = sym (ap placeOf (c .enum-told5 .given .1))
 
--- src/lib.rt:114:5
 returns-9 : tie.Need-returns-9
 returns-9 c = sym (ap placeOf (c .enum-told6 .given .1))
 
--- src/lib.rt:114:5
 returns-10 : tie.Need-returns-10
 returns-10 c = sym (ap placeOf (c .before .self4 .given .1))
 
--- src/lib.rt:114:5
 returns-11 : tie.Need-returns-11
 returns-11 c = sym (ap placeOf (c .enum-told7 .given .1))
 
--- src/lib.rt:114:5
 returns-12 : tie.Need-returns-12
 returns-12 c = sym (ap placeOf (c .before .self5 .given .1))
 
--- src/lib.rt:114:5
 returns-13 : tie.Need-returns-13
 returns-13 c = sym (ap placeOf (c .enum-told8 .given .1))
 
--- src/lib.rt:114:5
 returns-14 : tie.Need-returns-14
 returns-14 c = sym (ap placeOf (c .enum-told9 .given .1))
 
--- src/lib.rt:114:5
 returns-15 : tie.Need-returns-15
 returns-15 c = sym (ap placeOf (c .enum-told10 .given .1))
 
--- src/lib.rt:114:5
 returns-16 : tie.Need-returns-16
 returns-16 c = sym (ap placeOf (c .enum-told11 .given .1))
 
--- src/lib.rt:114:5
 returns-17 : tie.Need-returns-17
 returns-17 c = sym (ap placeOf (c .before .self6 .given .1))
 
--- src/lib.rt:114:5
 returns-18 : tie.Need-returns-18
 returns-18 c = sym (ap placeOf (c .enum-told12 .given .1))
 
--- src/lib.rt:114:5
 returns-19 : tie.Need-returns-19
 returns-19 c = sym (ap placeOf (c .enum-told13 .given .1))
+
+returns-20 : tie.Need-returns-20
+returns-20 c = sym (ap placeOf (c .before .self7 .given .1))
+
+returns-21 : tie.Need-returns-21
+returns-21 c = sym (ap placeOf (c .before .self8 .given .1))
 
 pub place-spec : {M : Type 1} → statement M
 place-spec =
@@ -180,6 +154,8 @@ place-spec =
     enum-known-self-6
     enum-told-12
     enum-told-13
+    enum-known-self-7
+    enum-known-self-8
     returns
     returns-2
     returns-3
@@ -198,4 +174,6 @@ place-spec =
     returns-16
     returns-17
     returns-18
-    returns-19)
+    returns-19
+    returns-20
+    returns-21)

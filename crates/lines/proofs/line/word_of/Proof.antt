@@ -2,7 +2,7 @@
 use mathlib.Core.Path.{_∙_}
 use borrow.Author.Needs.{needs}
 use Rattle.lines.specs.Lines.{wordOf}
-use Rattle.lines.proofs.Words.{same-told}
+use Rattle.fields.proofs.Same.{same-told}
 use Rattle.lines.proofs.line.word_of.Statement.{statement}
 use Rattle.lines.proofs.line.word_of.Tie as tie
 

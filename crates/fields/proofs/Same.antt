@@ -5,7 +5,7 @@ use mathlib.Core.List.{List, [], _∷_}
 use Prim.Native.Nat.{ℕ}
 use borrow.Author.Tests.{eq-eqb, eqb-true}
 use lib.Dec.{eqb}
-use Rattle.lines.specs.Lines.{same}
+use Rattle.fields.specs.Bytes.{same}
 
 same-self : (xs : List ℕ) → same xs xs ≡ true
 unfolding same
