@@ -1,6 +1,6 @@
 -- The bytes of the classes hold the classes: what is read from them are the marks and the moves of the quotient.
-use mathlib.Core.Path.{_≡_, refl, ap, _∙_}
-use mathlib.Core.Bool.{Bool, true, false, _&&_, cond}
+use mathlib.Core.Path.{_≡_, ap, _∙_}
+use mathlib.Core.Bool.{Bool, _&&_, cond}
 use mathlib.Core.List.{List, [], map}
 use Prim.Native.Nat.{ℕ, _+_, _*_, _/_, _≤_, _<_}
 use native.Mathlib.Nat.{mul-le-mul, zero-add}
@@ -14,15 +14,11 @@ use Rattle.automaton.specs.Board.{Board, Formed, accepts, from, to}
 use Rattle.automaton.specs.First.{some}
 use Rattle.simulation.specs.Rules.{bit}
 use Rattle.simulation.specs.Quotient.{classOf, classCount, classBytes, markOf, classMarks, tripleBy, imageOf, reached, classMoves}
-use Rattle.simulation.proofs.Listed.{map-at, listed-length}
+use Rattle.simulation.proofs.Listed.{bit-is, map-at, listed-length}
 use Rattle.laws.proofs.Images.{class-most}
-use Rattle.classing.specs.Writing.{markIn, imageIn, mostTriples, Seen, Imaged, triplesIn}
-use Rattle.classing.proofs.Turns.{some-same, turn-same}
-
--- a bit is 1 exactly if it says true
-bit-is : (s : Bool) → eqb (bit s) 1 ≡ s
-bit-is true = refl
-bit-is false = refl
+use Rattle.triples.specs.Triples.{mostTriples, triplesIn}
+use Rattle.triples.proofs.Turns.{some-same, turn-same}
+use Rattle.classing.specs.Writing.{markIn, imageIn, Seen, Imaged}
 
 -- ---- the classes
 

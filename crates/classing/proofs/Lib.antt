@@ -1,4 +1,3 @@
 pub mod Lists
-pub mod Turns
 pub mod Bytes
 pub mod Bare

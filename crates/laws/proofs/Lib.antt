@@ -7,6 +7,7 @@ pub mod Composed
 pub mod Preorder
 pub mod Classes
 pub mod Triples
+pub mod Numbered
 pub mod Images
 pub mod Fewer
 pub mod Quotient

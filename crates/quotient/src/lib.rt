@@ -84,9 +84,9 @@ fn merge(
     let letters = g.letters;
     let count = classing::classes::number(g, marks, table, classes);
     classing::written::fill_marks(count, marks, &classes[..], classmarks);
-    let mut seen = [0u8; classing::written::TRIPLES];
+    let mut seen = [0u8; triples::TRIPLES];
     classing::written::mark_images(states, letters, &classes[..], moves, &mut seen[..]);
-    let bytes = classing::written::write_moves(states, letters, &seen[..], classmoves);
+    let bytes = triples::write_moves(states, letters, &seen[..], classmoves);
     classing::written::leave_unused(&mut classmoves[bytes..]);
     Merged::Counts(count, bytes / 3, wide(classes[start]))
 }

@@ -7,6 +7,7 @@ use Prim.Native.Nat.{ℕ, zero, suc, _+_, _≤_, _<_}
 use native.Mathlib.Nat.{add-zero, zero-add, not-suc-le-zero, le-of-suc-le-suc}
 use native.Mathlib.Numerals.{add-one}
 use native.Mathlib.Omega.{arith}
+use lib.Dec.{eqb}
 use lib.ListN.{length, getD, set, drop, length-map}
 use Rattle.games.specs.Settle.{ascending}
 use Rattle.simulation.specs.Rules.{bit}
@@ -49,3 +50,8 @@ bit-most false = omega arith
 pub bit-one : (s : Bool) → (bit s ≡ 1) ↔ (s ≡ true)
 bit-one true = (λ e. refl, λ e. refl)
 bit-one false = (λ e. absurd (omega arith), λ e. ap bit e)
+
+-- so the test for 1 gives it back
+pub bit-is : (s : Bool) → eqb (bit s) 1 ≡ s
+bit-is true = refl
+bit-is false = refl

@@ -4,19 +4,15 @@ use borrow.Author.Needs.{needs}
 use Rattle.capi.proofs.lucorphane_ceiling.Statement.{statement}
 use Rattle.capi.proofs.lucorphane_ceiling.Tie as tie
 
--- src/lib.rt:68:40
 automaton-requires : tie.Need-automaton-requires
 automaton-requires c κs = search needs
 
--- src/lib.rt:68:25
 ceiling-requires : tie.Need-ceiling-requires
 ceiling-requires c κs = search needs
 
--- src/lib.rt:68:5
 of-counted-requires : tie.Need-of-counted-requires
 of-counted-requires c κs = search needs
 
--- src/lib.rt:57:1
 returns : tie.Need-returns
 returns c = rw (c .before .before .automaton .ensures) at (c .of-counted .ensures ∙ c .before .ceiling .ensures)
 

@@ -4,19 +4,15 @@ use borrow.Author.Needs.{needs}
 use Rattle.capi.proofs.lucorphane_check.Statement.{statement}
 use Rattle.capi.proofs.lucorphane_check.Tie as tie
 
--- src/lib.rt:45:42
 automaton-requires : tie.Need-automaton-requires
 automaton-requires c κs = search needs
 
--- src/lib.rt:45:25
 check-requires : tie.Need-check-requires
 check-requires c κs = search needs
 
--- src/lib.rt:45:5
 of-checked-requires : tie.Need-of-checked-requires
 of-checked-requires c κs = search needs
 
--- src/lib.rt:35:1
 returns : tie.Need-returns
 returns c = rw (c .before .before .automaton .ensures) at (c .of-checked .ensures ∙ c .before .check .ensures)
 

@@ -4,23 +4,18 @@ use borrow.Author.Needs.{needs}
 use Rattle.capi.proofs.lucorphane_clear.Statement.{statement}
 use Rattle.capi.proofs.lucorphane_clear.Tie as tie
 
--- src/lib.rt:85:38
 automaton-requires : tie.Need-automaton-requires
 automaton-requires c κs = search needs
 
--- src/lib.rt:85:25
 clear-requires : tie.Need-clear-requires
 clear-requires c κs = search needs
 
--- src/lib.rt:85:5
 of-cleared-requires : tie.Need-of-cleared-requires
 of-cleared-requires c κs = search needs
 
--- src/lib.rt:72:1
 same-length : tie.Need-same-length
 same-length c = search needs
 
--- src/lib.rt:72:1
 returns : tie.Need-returns
 returns c =
     let at = c .before .before .before in

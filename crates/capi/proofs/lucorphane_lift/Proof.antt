@@ -4,23 +4,18 @@ use borrow.Author.Needs.{needs}
 use Rattle.capi.proofs.lucorphane_lift.Statement.{statement}
 use Rattle.capi.proofs.lucorphane_lift.Tie as tie
 
--- src/lib.rt:104:9
 automaton-requires : tie.Need-automaton-requires
 automaton-requires c κs = search needs
 
--- src/lib.rt:103:24
 lift-requires : tie.Need-lift-requires
 lift-requires c κs = search needs
 
--- src/lib.rt:103:5
 of-lifted-requires : tie.Need-of-lifted-requires
 of-lifted-requires c κs = search needs
 
--- src/lib.rt:89:1
 same-length : tie.Need-same-length
 same-length c = search needs
 
--- src/lib.rt:89:1
 returns : tie.Need-returns
 returns c =
     let at = c .before .before .before in

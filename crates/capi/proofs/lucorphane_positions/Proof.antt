@@ -4,19 +4,15 @@ use borrow.Author.Needs.{needs}
 use Rattle.capi.proofs.lucorphane_positions.Statement.{statement}
 use Rattle.capi.proofs.lucorphane_positions.Tie as tie
 
--- src/lib.rt:53:42
 automaton-requires : tie.Need-automaton-requires
 automaton-requires c κs = search needs
 
--- src/lib.rt:53:25
 positions-requires : tie.Need-positions-requires
 positions-requires c κs = search needs
 
--- src/lib.rt:53:5
 of-counted-requires : tie.Need-of-counted-requires
 of-counted-requires c κs = search needs
 
--- src/lib.rt:49:1
 returns : tie.Need-returns
 returns c = rw (c .before .before .automaton .ensures) at (c .of-counted .ensures ∙ c .before .positions .ensures)
 

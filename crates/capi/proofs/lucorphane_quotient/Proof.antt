@@ -4,35 +4,27 @@ use borrow.Author.Needs.{needs}
 use Rattle.capi.proofs.lucorphane_quotient.Statement.{statement}
 use Rattle.capi.proofs.lucorphane_quotient.Tie as tie
 
--- src/lib.rt:213:9
 automaton-requires : tie.Need-automaton-requires
 automaton-requires c κs = search needs
 
--- src/lib.rt:212:24
 quotient-requires : tie.Need-quotient-requires
 quotient-requires c κs = search needs
 
--- src/lib.rt:212:5
 of-merged-requires : tie.Need-of-merged-requires
 of-merged-requires c κs = search needs
 
--- src/lib.rt:196:1
 same-length : tie.Need-same-length
 same-length c = search needs
 
--- src/lib.rt:196:1
 same-length-2 : tie.Need-same-length-2
 same-length-2 c = search needs
 
--- src/lib.rt:196:1
 same-length-3 : tie.Need-same-length-3
 same-length-3 c = search needs
 
--- src/lib.rt:196:1
 same-length-4 : tie.Need-same-length-4
 same-length-4 c = search needs
 
--- src/lib.rt:196:1
 returns : tie.Need-returns
 returns c =
     let at = c .before .before .before .before .before .before .before .before .before in

@@ -4,23 +4,18 @@ use borrow.Author.Needs.{needs}
 use Rattle.capi.proofs.lucorphane_relation.Statement.{statement}
 use Rattle.capi.proofs.lucorphane_relation.Tie as tie
 
--- src/lib.rt:162:9
 automaton-requires : tie.Need-automaton-requires
 automaton-requires c κs = search needs
 
--- src/lib.rt:161:25
 relation-requires : tie.Need-relation-requires
 relation-requires c κs = search needs
 
--- src/lib.rt:161:5
 of-related-requires : tie.Need-of-related-requires
 of-related-requires c κs = search needs
 
--- src/lib.rt:147:1
 same-length : tie.Need-same-length
 same-length c = search needs
 
--- src/lib.rt:147:1
 returns : tie.Need-returns
 returns c =
     let at = c .before .before .before in

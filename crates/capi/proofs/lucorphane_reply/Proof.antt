@@ -4,19 +4,15 @@ use borrow.Author.Needs.{needs}
 use Rattle.capi.proofs.lucorphane_reply.Statement.{statement}
 use Rattle.capi.proofs.lucorphane_reply.Tie as tie
 
--- src/lib.rt:186:9
 automaton-requires : tie.Need-automaton-requires
 automaton-requires c κs = search needs
 
--- src/lib.rt:185:25
 reply-requires : tie.Need-reply-requires
 reply-requires c κs = search needs
 
--- src/lib.rt:185:5
 of-replied-requires : tie.Need-of-replied-requires
 of-replied-requires c κs = search needs
 
--- src/lib.rt:172:1
 returns : tie.Need-returns
 returns c = rw (c .before .before .automaton .ensures) at (c .of-replied .ensures ∙ c .before .reply .ensures)
 

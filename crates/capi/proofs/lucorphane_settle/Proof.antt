@@ -4,23 +4,18 @@ use borrow.Author.Needs.{needs}
 use Rattle.capi.proofs.lucorphane_settle.Statement.{statement}
 use Rattle.capi.proofs.lucorphane_settle.Tie as tie
 
--- src/lib.rt:127:39
 automaton-requires : tie.Need-automaton-requires
 automaton-requires c κs = search needs
 
--- src/lib.rt:127:25
 settle-requires : tie.Need-settle-requires
 settle-requires c κs = search needs
 
--- src/lib.rt:127:5
 of-settled-requires : tie.Need-of-settled-requires
 of-settled-requires c κs = search needs
 
--- src/lib.rt:114:1
 same-length : tie.Need-same-length
 same-length c = search needs
 
--- src/lib.rt:114:1
 returns : tie.Need-returns
 returns c =
     let at = c .before .before .before in

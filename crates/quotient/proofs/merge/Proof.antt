@@ -12,7 +12,8 @@ use Rattle.automaton.specs.Board.{Board, Formed}
 use Rattle.simulation.specs.Quotient.{padded, classOf, classCount, classBytes, classMarks, markBytes, classMoves, moveBytes}
 use Rattle.arena.specs.Arena.{boardIn}
 use Rattle.quotient.specs.Calls.{buffers, counted}
-use Rattle.classing.specs.Writing.{Imaged, markIn, mostTriples, Seen, triplesIn}
+use Rattle.triples.specs.Triples.{mostTriples, triplesIn}
+use Rattle.classing.specs.Writing.{Imaged, markIn, Seen}
 use Rattle.classing.proofs.Bytes.{bytes-length, marks-are, imaged, triples-are, class-at}
 use Rattle.laws.proofs.Fewer.{moves-fewer}
 use Rattle.laws.proofs.Quotient.{classes-most}

@@ -1,0 +1,4 @@
+pub mod Three
+pub mod Turns
+pub mod Noted
+pub mod Marked
