@@ -1,8 +1,3 @@
-pub mod Left
-pub mod PairLines
-pub mod Bare
-pub mod Within
-pub mod Fits
 pub mod Reading
 pub mod Told
 pub mod Accepted

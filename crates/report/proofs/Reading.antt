@@ -19,7 +19,7 @@ use Rattle.text.proofs.Accepted.{text-line}
 use Rattle.text.proofs.Effects.{done, lines-fault, reading-refused, reading-done}
 use Rattle.text.proofs.Few.{moves-few}
 use Rattle.text.proofs.One.{one-reading}
-use Rattle.report.specs.Small.{Small}
+use Rattle.printer.specs.Small.{Small}
 use Rattle.report.specs.Report.{jobRead}
 
 -- the two buffers that the report lends

@@ -14,13 +14,14 @@ use Rattle.automaton.proofs.One.{refused-not}
 use Rattle.fields.specs.Bytes.{laid, stop}
 use Rattle.fields.proofs.Laid.{laid-whole, stop-whole}
 use Rattle.fields.proofs.Tests.{by-test}
+use Rattle.printer.specs.Printed.{refusalText, relationText}
+use Rattle.printer.proofs.Fits.{refusal-fits, relation-fits}
 use Rattle.text.specs.Calls.{before}
 use Rattle.text.specs.Text.{textFault}
 use Rattle.text.proofs.Accepted.{text-line}
 use Rattle.text.proofs.Places.{text-place}
 use Rattle.report.specs.Calls.{longest, reporting}
-use Rattle.report.specs.Report.{refusalText, relationText, jobRead, reportOf}
-use Rattle.report.proofs.Fits.{refusal-fits, relation-fits}
+use Rattle.report.specs.Report.{jobRead, reportOf}
 use Rattle.report.proofs.Reading.{before-long, job-small}
 
 module _ (text : List ℕ) where

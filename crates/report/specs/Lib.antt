@@ -1,4 +1,3 @@
 pub mod Report
 pub mod Answers
 pub mod Calls
-pub mod Small

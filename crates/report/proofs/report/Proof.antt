@@ -16,8 +16,9 @@ use Rattle.text.specs.Text.{head, mode, marks, moves, textFault, Legible}
 use Rattle.text.proofs.Accepted.{text-line}
 use Rattle.text.proofs.Sound.{moves-three, marks-length}
 use Rattle.arena.specs.Job.{jobOf}
-use Rattle.report.specs.Small.{Small}
-use Rattle.report.specs.Report.{refusalText, relationText, jobRead, reportOf}
+use Rattle.printer.specs.Printed.{refusalText, relationText}
+use Rattle.printer.specs.Small.{Small}
+use Rattle.report.specs.Report.{jobRead, reportOf}
 use Rattle.report.proofs.Reading.{empty, before-long, before-front, text-done, refused-text, held-text, automaton-is, mode-is, count-is, job-small, text-few}
 use Rattle.report.proofs.Told.{report-refused, report-told, report-short, report-put}
 use Rattle.report.proofs.report.Statement.{statement}

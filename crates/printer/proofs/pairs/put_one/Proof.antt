@@ -1,4 +1,4 @@
--- `report::pairs::put_one` meets its contract: the line of two states and of the entry that was read.
+-- `pairs::put_one` meets its contract: the line of two states and of the entry that was read.
 use mathlib.Core.Path.{ap}
 use mathlib.Core.List.{[], _∷_}
 use Prim.Native.Nat.{ℕ, _/_, _%_, _<_}
@@ -6,10 +6,10 @@ use native.Mathlib.Omega.{arith}
 use borrow.Author.Needs.{needs}
 use Rattle.arena.proofs.Begun.{states-some}
 use Rattle.fields.specs.Bytes.{bytesOf}
-use Rattle.report.specs.Report.{line}
-use Rattle.report.proofs.Left.{put-as}
-use Rattle.report.proofs.pairs.put_one.Statement.{statement}
-use Rattle.report.proofs.pairs.put_one.Tie as tie
+use Rattle.printer.specs.Printed.{line}
+use Rattle.printer.proofs.Left.{put-as}
+use Rattle.printer.proofs.pairs.put_one.Statement.{statement}
+use Rattle.printer.proofs.pairs.put_one.Tie as tie
 
 some : (s : tie.Start) → 0 < s .args .g .states
 some s = states-some (s .args .g .states) (s .args .i) (s .pre .1)

@@ -1,12 +1,12 @@
--- `report::put_pairs` meets its contract: at most 256 pairs, so there is room for their bytes.
+-- `put_pairs` meets its contract: at most 256 pairs, so there is room for their bytes.
 use Prim.Native.Nat.{_*_, _≤_}
 use native.Mathlib.Omega.{arith}
 use borrow.Author.Needs.{needs}
 use lib.ListN.{replicate}
 use Rattle.arena.specs.Job.{jobOf}
-use Rattle.report.proofs.Within.{few-pairs, lent-long}
-use Rattle.report.proofs.put_pairs.Statement.{statement}
-use Rattle.report.proofs.put_pairs.Tie as tie
+use Rattle.printer.proofs.Within.{few-pairs, lent-long}
+use Rattle.printer.proofs.put_pairs.Statement.{statement}
+use Rattle.printer.proofs.put_pairs.Tie as tie
 
 few : (s : tie.Start) → s .args .a .states * s .args .a .states ≤ 256
 few s = few-pairs (jobOf (s .args .a) (s .args .marks .now) (s .args .moves .now) (s .args .mode)) (s .pre .0)

@@ -4,7 +4,7 @@ ghost use Prim.Native.Nat.{_*_, _<_, _/_, _%_};
 ghost use Rattle.fields.specs.Bytes.{laid, stop};
 ghost use Rattle.simulation.specs.Answers.{relation};
 ghost use Rattle.arena.specs.Seats.{bare, Seated};
-ghost use Rattle.report.specs.Report.{entryAt, pairLine, pairLinesFrom};
+ghost use Rattle.printer.specs.Printed.{entryAt, pairLine, pairLinesFrom};
 use super::lines;
 use arena::Arena;
 

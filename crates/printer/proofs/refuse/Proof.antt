@@ -1,14 +1,14 @@
--- `report::refuse` meets its contract: the line of the refusal's number and place.
+-- `refuse` meets its contract: the line of the refusal's number and place.
 use mathlib.Core.Path.{ap, _∙_}
 use mathlib.Core.List.{[], _∷_}
 use Prim.Native.Nat.{ℕ}
 use borrow.Author.Needs.{needs}
 use Rattle.automaton.specs.Answer.{numberOf}
 use Rattle.fields.specs.Bytes.{bytesOf}
-use Rattle.report.specs.Report.{line}
-use Rattle.report.proofs.Left.{put-as}
-use Rattle.report.proofs.refuse.Statement.{statement}
-use Rattle.report.proofs.refuse.Tie as tie
+use Rattle.printer.specs.Printed.{line}
+use Rattle.printer.proofs.Left.{put-as}
+use Rattle.printer.proofs.refuse.Statement.{statement}
+use Rattle.printer.proofs.refuse.Tie as tie
 
 number-requires : tie.Need-number-requires
 number-requires c κs = search needs

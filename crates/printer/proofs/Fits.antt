@@ -23,10 +23,10 @@ use Rattle.simulation.proofs.Limits.{ceiling-within}
 use Rattle.simulation.proofs.Relation.{settled-rest, settled-raises}
 use Rattle.arena.specs.Job.{Job, modeOf, gameOf}
 use Rattle.arena.proofs.Begun.{red-lt, blue-lt}
-use Rattle.report.specs.Small.{Small}
+use Rattle.printer.specs.Small.{Small}
 use Rattle.fields.specs.Bytes.{bytesOf}
-use Rattle.report.specs.Report.{line, tabbed, refusalText, entryAt, pairLine, pairLinesFrom, pairLines, relationText}
-use Rattle.report.proofs.Within.{few-pairs, few-positions}
+use Rattle.printer.specs.Printed.{line, tabbed, refusalText, entryAt, pairLine, pairLinesFrom, pairLines, relationText}
+use Rattle.printer.proofs.Within.{few-pairs, few-positions}
 
 -- ---- lines
 

@@ -24,7 +24,7 @@ use Rattle.arena.proofs.Accepted.{positions-accepted}
 use Rattle.arena.proofs.Open.{open-line, shut-fault}
 use Rattle.relation.specs.Calls.{relating}
 use Rattle.relation.proofs.Accepted.{relation-does}
-use Rattle.report.specs.Small.{Small}
+use Rattle.printer.specs.Small.{Small}
 
 -- the first n of a buffer are n
 pub lent-long : (n : ℕ) (xs : List ℕ) → n ≤ length xs → length (midOf 0 (n - 0) xs) ≡ n

@@ -1,11 +1,11 @@
--- `report::pairs::entry` meets its contract: pair i begins with the bit that its two states owe.
+-- `pairs::entry` meets its contract: pair i begins with the bit that its two states owe.
 use Prim.Native.Nat.{ℕ, _+_, _*_, _<_}
 use native.Mathlib.Omega.{arith}
 use borrow.Author.Needs.{needs}
 use Rattle.arena.proofs.Begun.{states-some, red-lt, blue-lt, begun-small, begun-lt, begun-at}
 use Rattle.arena.proofs.Seats.{square-most}
-use Rattle.report.proofs.pairs.entry.Statement.{statement}
-use Rattle.report.proofs.pairs.entry.Tie as tie
+use Rattle.printer.proofs.pairs.entry.Statement.{statement}
+use Rattle.printer.proofs.pairs.entry.Tie as tie
 
 abbrev begun : tie.After-owed → tie.Start
 begun c = c .before .before .before .before .before

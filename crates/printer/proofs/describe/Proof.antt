@@ -1,4 +1,4 @@
--- `report::describe` meets its contract: `positions` answers P, which is at most 4,608, so there is room for the table.
+-- `describe` meets its contract: `positions` answers P, which is at most 4,608, so there is room for the table.
 use mathlib.Core.Path.{_≡_, refl, sym, ap, _∙_}
 use Prim.Native.Nat.{ℕ, _≤_}
 use native.Mathlib.Omega.{arith}
@@ -8,9 +8,9 @@ use Rattle.automaton.specs.Answer.{valued, value}
 use Rattle.automaton.proofs.One.{refused-not}
 use Rattle.arena.specs.Answers.{ofCounted}
 use Rattle.arena.specs.Job.{Job, jobOf, gameOf}
-use Rattle.report.proofs.Within.{few-positions, lent-long, sizes}
-use Rattle.report.proofs.describe.Statement.{statement}
-use Rattle.report.proofs.describe.Tie as tie
+use Rattle.printer.proofs.Within.{few-positions, lent-long, sizes}
+use Rattle.printer.proofs.describe.Statement.{statement}
+use Rattle.printer.proofs.describe.Tie as tie
 
 abbrev begun : tie.After-positions → tie.Start
 begun c = c .before .before .before .before

@@ -1,4 +1,4 @@
--- `report::put_pairs_on` meets its contract: `relation` and `for_table` accept the settled table, and the bytes are those of its relation.
+-- `put_pairs_on` meets its contract: `relation` and `for_table` accept the settled table, and the bytes are those of its relation.
 use mathlib.Core.Path.{_≡_, refl, sym, ap, _∙_}
 use mathlib.Core.List.{List}
 use Prim.Native.Nat.{ℕ, _*_}
@@ -15,12 +15,12 @@ use Rattle.arena.specs.Job.{Job, jobOf, modeOf}
 use Rattle.arena.proofs.Open.{open-ready}
 use Rattle.arena.proofs.Seats.{seated}
 use Rattle.relation.specs.Answers.{ofRelated}
-use Rattle.report.specs.Report.{pairLinesFrom}
-use Rattle.report.proofs.Bare.{open-lines, open-relation}
-use Rattle.report.proofs.Left.{put-as}
-use Rattle.report.proofs.Within.{not-shut, settled-fits, settled-relates}
-use Rattle.report.proofs.put_pairs_on.Statement.{statement}
-use Rattle.report.proofs.put_pairs_on.Tie as tie
+use Rattle.printer.specs.Printed.{pairLinesFrom}
+use Rattle.printer.proofs.Bare.{open-lines, open-relation}
+use Rattle.printer.proofs.Left.{put-as}
+use Rattle.printer.proofs.Within.{not-shut, settled-fits, settled-relates}
+use Rattle.printer.proofs.put_pairs_on.Statement.{statement}
+use Rattle.printer.proofs.put_pairs_on.Tie as tie
 
 abbrev begun : tie.After-relation → tie.Start
 begun c = c .before .before .before .before .before .before .before

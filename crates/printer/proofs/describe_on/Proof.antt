@@ -1,4 +1,4 @@
--- `report::describe_on` meets its contract: `settle` accepts the table, and the three parts of the text are laid one behind another.
+-- `describe_on` meets its contract: `settle` accepts the table, and the three parts of the text are laid one behind another.
 use mathlib.Core.Path.{_≡_, refl, sym, ap, _∙_}
 use mathlib.Core.List.{[], _∷_, _++_, append-nil}
 use Prim.Native.Nat.{ℕ}
@@ -11,10 +11,10 @@ use Rattle.arena.specs.Job.{Job, jobOf, gameOf}
 use Rattle.table.specs.Answers.{ofSettled}
 use Rattle.table.proofs.Accepted.{settle-does}
 use Rattle.fields.specs.Bytes.{bytesOf}
-use Rattle.report.specs.Report.{line, pairLines, relationText}
-use Rattle.report.proofs.Left.{put-as, left-all, left-next, left-none}
-use Rattle.report.proofs.describe_on.Statement.{statement}
-use Rattle.report.proofs.describe_on.Tie as tie
+use Rattle.printer.specs.Printed.{line, pairLines, relationText}
+use Rattle.printer.proofs.Left.{put-as, left-all, left-next, left-none}
+use Rattle.printer.proofs.describe_on.Statement.{statement}
+use Rattle.printer.proofs.describe_on.Tie as tie
 
 abbrev begun : tie.After-settle → tie.Start
 begun c = c .before .before .before .before .before .before

@@ -11,7 +11,7 @@ use Rattle.automaton.specs.Board.{Board}
 use Rattle.simulation.specs.Answers.{below, byteAt}
 use Rattle.simulation.specs.Rules.{bit}
 use Rattle.simulation.proofs.Listed.{bit-one}
-use Rattle.report.specs.Report.{pairLine, pairLinesFrom}
+use Rattle.printer.specs.Printed.{pairLine, pairLinesFrom}
 
 chosen-none : (s : Bool) (l : List ℕ) → bit s ≢ 1 → cond s l [] ≡ []
 chosen-none true l n = absurd (n refl)

@@ -1,7 +1,7 @@
 // One line put into a buffer: a word and numbers, parted by tabs, and a newline.
 ghost use mathlib.Core.Path.{_≡_};
 ghost use Rattle.fields.specs.Bytes.{laid, stop};
-ghost use Rattle.report.specs.Report.{line};
+ghost use Rattle.printer.specs.Printed.{line};
 
 // Puts a line: the place past it.
 pub fn put(out: &mut [u8], at: usize, word: &[u8], values: &[usize]) -> usize

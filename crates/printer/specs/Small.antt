@@ -1,5 +1,5 @@
--- What the functions below `report` ask for: an automaton and a mode that no program refuses.
--- Functions below the call promise it to each other; no public promise cites it.
+-- What is described: an automaton and a mode that no program refuses.
+-- The functions of this crate ask the calls above for it, and each other; no public promise cites it.
 use Prim.Native.Nat.{_≤_}
 use Rattle.arena.specs.Job.{Job}
 use Rattle.arena.specs.Refusals.{Proper}

@@ -1,4 +1,4 @@
--- `report::pairs::put` meets its contract: the lines of the pairs left, put from here on, end and lie where all of them do.
+-- `pairs::put` meets its contract: the lines of the pairs left, put from here on, end and lie where all of them do.
 use mathlib.Core.Path.{_≡_, sym, ap, _∙_}
 use mathlib.Core.Logic.{⊎-elim}
 use mathlib.Core.List.{List, []}
@@ -13,11 +13,11 @@ use Rattle.simulation.proofs.Listed.{map-at}
 use Rattle.simulation.proofs.Relation.{relation-length}
 use Rattle.arena.specs.declared.Arena.{Arena}
 use Rattle.arena.specs.Seats.{bare}
-use Rattle.report.specs.Report.{pairLine, pairLinesFrom}
-use Rattle.report.proofs.Left.{Left, left-all, left-as, left-next, left-none}
-use Rattle.report.proofs.PairLines.{lines-one, lines-none, lines-done}
-use Rattle.report.proofs.pairs.put.Statement.{statement}
-use Rattle.report.proofs.pairs.put.Tie as tie
+use Rattle.printer.specs.Printed.{pairLine, pairLinesFrom}
+use Rattle.printer.proofs.Left.{Left, left-all, left-as, left-next, left-none}
+use Rattle.printer.proofs.PairLines.{lines-one, lines-none, lines-done}
+use Rattle.printer.proofs.pairs.put.Statement.{statement}
+use Rattle.printer.proofs.pairs.put.Tie as tie
 
 -- the lines of the pairs from i on
 abbrev lines : Arena → (marks table : List ℕ) → (i : ℕ) → List ℕ

@@ -13,7 +13,7 @@ use Rattle.arena.specs.Seats.{bare}
 use Rattle.arena.proofs.Open.{open-is}
 use Rattle.arena.proofs.Seats.{bare-below}
 use Rattle.relation.proofs.Bare.{bare-relation}
-use Rattle.report.specs.Report.{pairLine, pairLinesFrom}
+use Rattle.printer.specs.Printed.{pairLine, pairLinesFrom}
 
 bare-lines : (g : Arena) (marks moves t : List ℕ) (i c : ℕ) → pairLinesFrom (bare g marks) (g .mode) t i c ≡ pairLinesFrom (boardIn g marks moves) (g .mode) t i c
 unfolding pairLinesFrom

@@ -1,4 +1,4 @@
--- `report::lines::put` meets its contract: the fields left and the newline, put from here on, end and lie where the whole line does.
+-- `lines::put` meets its contract: the fields left and the newline, put from here on, end and lie where the whole line does.
 use mathlib.Core.Path.{_≡_, refl}
 use mathlib.Core.List.{List, [], _∷_, _++_, append-assoc}
 use Prim.Native.Nat.{ℕ, _+_, _-_, _≤_, _<_}
@@ -8,10 +8,10 @@ use lib.ListN.{length, getD, drop, drop-of-length-le}
 use lib.Seq.{drop-cons}
 use Rattle.fields.specs.Bytes.{newline, tab}
 use Rattle.fields.specs.Numbers.{shown}
-use Rattle.report.specs.Report.{line, tabbed}
-use Rattle.report.proofs.Left.{Left, left-all, left-next, left-then, left-none}
-use Rattle.report.proofs.lines.put.Statement.{statement}
-use Rattle.report.proofs.lines.put.Tie as tie
+use Rattle.printer.specs.Printed.{line, tabbed}
+use Rattle.printer.proofs.Left.{Left, left-all, left-next, left-then, left-none}
+use Rattle.printer.proofs.lines.put.Statement.{statement}
+use Rattle.printer.proofs.lines.put.Tie as tie
 
 -- the fields from i on, and the newline
 abbrev rest : (values : List ℕ) → ℕ → List ℕ

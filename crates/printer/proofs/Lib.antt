@@ -1,0 +1,5 @@
+pub mod Left
+pub mod PairLines
+pub mod Within
+pub mod Bare
+pub mod Fits
