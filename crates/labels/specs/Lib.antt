@@ -1,0 +1,5 @@
+pub mod Label
+pub mod Stands
+pub mod Letters
+pub mod Printed
+pub mod Parts
