@@ -1,0 +1,9 @@
+pub mod Shown
+pub mod On
+pub mod Going
+pub mod Reading
+pub mod Found
+pub mod One
+pub mod Exact
+pub mod Reach
+pub mod Sound

@@ -1,0 +1,3 @@
+pub mod Header
+pub mod Stands
+pub mod Walk
