@@ -1,0 +1,5 @@
+pub mod File
+pub mod Reading
+pub mod Answers
+pub mod Calls
+pub mod Writing
