@@ -43,7 +43,8 @@ use Rattle.text.specs.Calls.{Lent, Roomy, reading}
 use Rattle.text.specs.Text.{mode, boardIn, textFault, Legible}
 use Rattle.report.specs.Answers.{ofReported}
 use Rattle.report.specs.Calls.{longest, reporting}
-use Rattle.report.specs.Report.{refusalText, relationText, jobRead, reportOf}
+use Rattle.printer.specs.Printed.{refusalText, relationText}
+use Rattle.report.specs.Report.{jobRead, reportOf}
 use Rattle.demands.specs.Ends.{answering, Ends, One, TurnsAway}
 use Rattle.demands.specs.Replies.{jobIn, TakesReplies}
 use Rattle.demands.specs.Order.{Call, AllOrderly, after, raised, duePositions}

@@ -3,3 +3,4 @@ pub mod Played
 pub mod Order
 pub mod Lifted
 pub mod Demands
+pub mod Hanoi
