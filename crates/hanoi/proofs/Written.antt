@@ -5,7 +5,7 @@ use mathlib.Core.List.{List, [], _∷_, _++_}
 use Prim.Native.Nat.{ℕ, _-_, _≤_, _<_}
 use native.Mathlib.Omega.{arith}
 use borrow.Author.Tests.{lt-ltb, le-ltb}
-use borrow.Rule.Slice.PartMut.{postOf, putMid, post-is}
+use borrow.Rule.Slice.PartMut.{putMid, post-is}
 use lib.Dec.{ltb}
 use lib.ListN.{length, drop}
 use Rattle.automaton.specs.declared.Automaton.{Automaton}

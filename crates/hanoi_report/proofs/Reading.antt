@@ -7,10 +7,8 @@ use lib.ListN.{length, length-replicate}
 use Rattle.automaton.specs.declared.Automaton.{Automaton}
 use Rattle.automaton.specs.declared.Refusal.{Refusal}
 use Rattle.automaton.specs.declared.Refusal.the-variants.{TooLong}
-use Rattle.automaton.specs.declared.Named.the-variants.{Unknown}
 use Rattle.automaton.specs.Answer.{Fault, none, fault, firstFault, refused}
 use Rattle.automaton.specs.Effect.{Effect}
-use Rattle.automaton.specs.Limits.{nameOf}
 use Rattle.automaton.proofs.One.{one-refusal, refused-not}
 use Rattle.text.specs.Calls.{Lent, lentOf, before}
 use Rattle.printer.specs.Printed.{refusalText, relationText, told}
@@ -18,14 +16,14 @@ use Rattle.printer.specs.Small.{Small}
 use Rattle.report.proofs.Reading.{empty}
 use Rattle.hanoi.specs.declared.Reading.the-variants.{Held}
 use Rattle.hanoi.specs.Answers.{ofReading}
-use Rattle.hanoi.specs.Calls.{judgements, held, reading, Reads, too-long, read, Legible, Roomy, shortFault}
+use Rattle.hanoi.specs.Calls.{judgements, held, reading, Reads, too-long, read, Legible, Roomy}
 use Rattle.hanoi.specs.File.{File, automatonIn, marksIn, movesIn}
 use Rattle.hanoi.specs.Reading as outcome
-use Rattle.hanoi.proofs.Accepted.{judged-line, reading-done, done, legible-judged, legible-formed, read-accepted, read-gives}
+use Rattle.hanoi.proofs.Accepted.{judged-line, reading-done, legible-judged, legible-formed, read-accepted, read-gives}
 use Rattle.hanoi.proofs.Exact.{comes-file}
 use Rattle.hanoi.proofs.Formed.{moves-few}
 use Rattle.hanoi.proofs.One.{one-reading}
-use Rattle.hanoi_report.specs.Report.{program, jobIn, printedOf, Prints}
+use Rattle.hanoi_report.specs.Report.{program, jobIn, Prints}
 use Rattle.hanoi_report.specs.Report as report
 
 -- no file within the limits of the programs needs more room

@@ -11,7 +11,7 @@ use Rattle.automaton.proofs.One.{checked-none, checked-fault}
 use Rattle.automaton.proofs.Sound.{states-line, letters-line}
 use Rattle.text.specs.Calls.{Lent, lentOf}
 use Rattle.hanoi.specs.Calls.{faultsOf}
-use Rattle.hanoi.specs.Writing.{marksOf, movesOf, writing, finishing}
+use Rattle.hanoi.specs.Writing.{marksOf, movesOf}
 use Rattle.hanoi.proofs.Written.{finish-judged, finish-written}
 use Rattle.hanoi.proofs.finish.Statement.{statement}
 use Rattle.hanoi.proofs.finish.Tie as tie

@@ -1,7 +1,5 @@
 -- `read` meets its contract: the text is too long, its header is refused, or the rest is read behind it.
 use mathlib.Core.Path.{_≡_, refl, subst}
-use mathlib.Core.List.{List}
-use Prim.Native.Nat.{ℕ}
 use borrow.Author.Needs.{needs}
 use Rattle.tokens.specs.Tokens.{tokenFrom}
 use Rattle.headers.specs.declared.Headed.{Headed}

@@ -1,22 +1,20 @@
 -- `report` meets its contract: `read` refuses the file or gives a legible one, whose relation has room.
 use mathlib.Core.Path.{_≡_, refl, sym, ap, subst, _∙_}
 use mathlib.Core.List.{List}
-use Prim.Native.Nat.{ℕ, _-_, _*_, _/_, _≤_}
+use Prim.Native.Nat.{ℕ, _-_, _*_, _≤_}
 use native.Mathlib.Omega.{arith}
 use borrow.Author.Needs.{needs}
 use lib.ListN.{length, take, drop, length-replicate}
 use Rattle.automaton.specs.declared.Automaton.{Automaton}
 use Rattle.automaton.specs.Answer.{Answer}
 use Rattle.arena.specs.Job.{jobOf}
-use Rattle.simulation.proofs.Listed.{listed-length}
 use Rattle.text.specs.Calls.{Lent, lentOf, before}
-use Rattle.printer.specs.Printed.{refusalText, relationText}
+use Rattle.printer.specs.Printed.{relationText}
 use Rattle.printer.specs.Small.{Small}
 use Rattle.report.proofs.Reading.{empty, before-long, before-front}
-use Rattle.hanoi.specs.declared.Reading.the-variants.{Held}
 use Rattle.hanoi.specs.Answers.{ofReading}
 use Rattle.hanoi.specs.Calls.{Reads}
-use Rattle.hanoi.specs.File.{File, automatonIn, marksIn, movesIn, boardIn}
+use Rattle.hanoi.specs.File.{File, marksIn, movesIn}
 use Rattle.hanoi.proofs.Accepted.{legible-formed}
 use Rattle.hanoi_report.specs.Report.{program, delayed, jobIn, Prints, short}
 use Rattle.hanoi_report.proofs.Reading.{Given, refused-printed, held-given, legible-printed, legible-small, legible-few}
