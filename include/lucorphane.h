@@ -24,8 +24,8 @@
  *   Spoiler's (b,q,r)       b*n*n + q*n + r
  *   Duplicator's (b,q,r,a)  2*n*n + (b*n*n + q*n + r)*k + a
  *
- * Refusals. A refused call returns the lowest number that applies, with its place and all values 0, and writes to no
- * buffer. Places count from 0 and name the first thing at fault; a place that is not named is 0.
+ * Refusals. A refused call returns the lowest number that applies, but 17 before 9 and 16, with its place and all values 0,
+ * and writes to no buffer. Places count from 0 and name the first thing at fault; a place that is not named is 0.
  *
  *   number                                                               place
  *    1  n is not 1 to 64
@@ -44,6 +44,7 @@
  *   14  a reply is asked for at a position that is lost
  *   15  a reply is asked for where Blue has no move; a table at rest has T there, so 12 or 14 comes before it
  *   16  an output has not the length that it must have
+ *   17  a quotient is asked for in mode 0 or 3
  *
  * What the caller owes, and nothing tests: a pointer is valid for the length after it, counted in elements, and aligned
  * for them; a buffer that is written to overlaps no other; nobody else writes to a lent buffer during the call. A pointer
@@ -114,12 +115,15 @@ lucorphane_answer lucorphane_reply(uint64_t n, uint64_t k, uint64_t start, const
                                    const uint8_t *moves, size_t moves_len, uint64_t mode, const uint32_t *table,
                                    size_t table_len, size_t position);
 
-/* Settles the table and merges the states of which each simulates the other. classes, of n bytes, becomes the class of each
- * state; classes are numbered from 0 on, in the order of their least members. marks, of n bytes, has one byte a class: 1 if a
- * member accepts, else 0. moves_out, of moves_len bytes, has the moves with each state replaced by its class, ascending and
- * each once. Bytes of marks and moves_out that are not used become 255. value[0] is the number of classes, value[1] the
- * number of moves, value[2] the class of start. All modes are taken. That the quotient accepts the same words is not
- * promised: it is known of delayed and direct simulation, and false of ordinary and fair. Refusals 1 to 9, 16. */
+/* Settles the table and merges the states of which each simulates the other, in mode 1 or 2. classes, of n bytes, becomes
+ * the class of each state; classes are numbered from 0 on, in the order of their least members. marks, of n bytes, has one
+ * byte a class: 1 if a member accepts, else 0. moves_out, of moves_len bytes, has the moves with each state replaced by its
+ * class, ascending and each once. Bytes of marks and moves_out that are not used become 255. value[0] is the number of
+ * classes, value[1] the number of moves, value[2] the class of start.
+ * A quotient by ordinary or fair simulation may accept words that the automaton does not: 0 to 1 and a loop on 1, with 0
+ * accepting, accepts none, and would become one accepting state with a loop. So modes 0 and 3 are refused with 17, whatever
+ * the lengths of the buffers. That a quotient in mode 1 or 2 accepts the same words is known and not promised here.
+ * Refusals 1 to 8, then 17, 9 and 16. */
 lucorphane_answer lucorphane_quotient(uint64_t n, uint64_t k, uint64_t start, const uint8_t *accept, size_t accept_len,
                                       const uint8_t *moves, size_t moves_len, uint64_t mode, uint32_t *table,
                                       size_t table_len, uint8_t *classes, size_t classes_len, uint8_t *marks,

@@ -173,8 +173,8 @@ impl Automaton<'_> {
         call!(lucorphane_reply, self, mode, table.as_ptr(), table.len(), position).map(|a| a.value[0] as usize)
     }
 
-    /// Settles the table and merges the states of which each simulates the other: the class of each state,
-    /// a mark for each class, and the moves between classes.
+    /// Settles the table and merges the states of which each simulates the other, in mode 1 or 2: the class of each state,
+    /// a mark for each class, and the moves between classes. Modes 0 and 3 are refused, with 17.
     pub fn quotient(
         &self,
         mode: u64,

@@ -28,7 +28,7 @@ pub fn refusals(call: Call) -> Vec<u64> {
         Call::Lift => (1..=11).collect(),
         Call::Relation => (1..=10).chain([12, 16]).collect(),
         Call::Reply => (1..=15).collect(),
-        Call::Quotient => (1..=9).chain([16]).collect(),
+        Call::Quotient => (1..=8).chain([17, 9, 16]).collect(),
     }
 }
 
@@ -68,6 +68,7 @@ fn place_of(number: u64, call: Call, lent: &Lent) -> Option<usize> {
         13 => at_0(lent.position < game_of(lent).spoilers),
         14 => at_0(lent.table[lent.position] == game_of(lent).top),
         15 => at_0(game_of(lent).steps(lent.position).is_empty()),
+        17 => at_0(lent.mode == 0 || lent.mode == 3),
         _ if call == Call::Relation => at_0(wrong(&lent.relation, lent.n * lent.n)),
         _ => at_0(
             wrong(&lent.classes, lent.n)

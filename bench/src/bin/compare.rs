@@ -20,7 +20,7 @@ struct Comparison {
     automata: usize,
     calls: usize,
     /// How often each call was refused with each number; at 0, how often it was accepted.
-    seen: [[usize; 17]; 10],
+    seen: [[usize; 18]; 10],
 }
 
 /// Ends the comparison with what differs.
@@ -134,7 +134,7 @@ impl Comparison {
 
 fn main() {
     let mut draw = Draw::new(SEED);
-    let mut comparison = Comparison { automata: 0, calls: 0, seen: [[0; 17]; 10] };
+    let mut comparison = Comparison { automata: 0, calls: 0, seen: [[0; 18]; 10] };
     for i in 0..SHORT {
         let (n, k) = (1 + draw.below(6), 1 + draw.below(3));
         let auto = drawn::automaton(&mut draw, n, k);

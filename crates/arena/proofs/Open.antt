@@ -1,30 +1,30 @@
 -- What opening an arena tells: which refusal there is, or that there is none and the arena fits the lent bytes.
 use mathlib.Core.Path.{_≡_, refl, sym, ap, _∙_, subst}
 use mathlib.Core.Logic.{_≢_, Iff·trans}
-use mathlib.Core.List.{List}
-use Prim.Native.Nat.{ℕ}
+use mathlib.Core.List.{List, [], _∷_}
+use Prim.Native.Nat.{ℕ, _+_, _*_, _≤_}
 use native.Mathlib.Omega.{arith}
 use lib.Dec.{eqb}
 use lib.ListN.{length}
 use borrow.Author.Tests.{eqb-true, eq-eqb, ne-eqb, not-false}
-use Rattle.games.specs.Game.{Game}
 use Rattle.automaton.specs.declared.Mode.{Mode}
 use Rattle.automaton.specs.declared.Mode.the-variants.{Ordinary, Direct, Delayed, Fair}
 use Rattle.automaton.specs.declared.Named.the-variants.{Known, Unknown}
 use Rattle.automaton.specs.declared.Refusal.{Refusal}
 use Rattle.automaton.specs.declared.Refusal.the-variants.{ModeNumber, TableLength}
-use Rattle.automaton.specs.Answer.{Fault, none, fault}
+use Rattle.automaton.specs.Answer.{Fault, none, fault, firstFault}
 use Rattle.automaton.specs.Check.{automatonFault}
-use Rattle.automaton.specs.Limits.{nameOf}
-use Rattle.automaton.proofs.Fault.{Line, fails-line, _then_, end, table-line}
+use Rattle.automaton.specs.Limits.{mostLetters, nameOf}
+use Rattle.automaton.proofs.Fault.{Line, fails-line, _then_, end, table-line, fault-alone}
 use Rattle.automaton.proofs.Sound.{automaton-line, mode-line}
 use Rattle.simulation.specs.Rules.{ceiling}
+use Rattle.simulation.proofs.Limits.{pairs-most}
 use Rattle.arena.specs.declared.Arena.{Arena}
 use Rattle.arena.specs.declared.Opened.{Opened}
 use Rattle.arena.specs.declared.Opened.the-variants.{Open, Shut}
 use Rattle.arena.specs.Job.{Job, modeOf, gameOf}
 use Rattle.arena.specs.Refusals.{jobFault, lengthFault, openFault, Proper, Fitting}
-use Rattle.arena.specs.Arena.{arenaOf, gameIn, Ready, openedBy, entered, opened}
+use Rattle.arena.specs.Arena.{arenaOf, gameIn, Ready, openedBy, entered, fitted, opened}
 
 -- ---- reading an opened arena back
 
@@ -44,12 +44,12 @@ refusalIn : Refusal → Opened → Refusal
 refusalIn d (Open g) = d
 refusalIn d (Shut r) = r
 
-by-open : (f : Fault) (h g : Arena) → openedBy f h ≡ Open g → (f ≡ none) × (h ≡ g)
+pub by-open : (f : Fault) (h g : Arena) → openedBy f h ≡ Open g → (f ≡ none) × (h ≡ g)
 unfolding arenaIn
 by-open none h g e = (refl, ap (arenaIn h) e)
 by-open (fault r) h g e = absurd (open-not-shut (sym e))
 
-by-shut : (f : Fault) (h : Arena) (r : Refusal) → openedBy f h ≡ Shut r → f ≡ fault r
+pub by-shut : (f : Fault) (h : Arena) (r : Refusal) → openedBy f h ≡ Shut r → f ≡ fault r
 unfolding refusalIn
 by-shut none h r e = absurd (open-not-shut e)
 by-shut (fault s) h r e = ap fault (ap (refusalIn s) e)
@@ -90,26 +90,39 @@ module _ (j : Job) where
   unfolding entered
   enter-open g e = by-open (jobFault j) _ g e
 
+  -- an arena that was entered has few positions
+  pub enter-small : (g : Arena) → entered j ≡ Open g → (g .pairs ≤ 8192) × (g .letters ≤ mostLetters)
+  enter-small g e =
+      let (n, d) = enter-open g e in
+      let F = job-line j .0 n .0 in
+      subst (λ (h : Arena). (h .pairs ≤ 8192) × (h .letters ≤ mostLetters)) d (pairs-most (j .board) (modeOf (j .mode)) (F .few), F .few-letters)
+
 -- ---- refusals 1 to 9
 
-size-line : (g : Game) (entries : ℕ) → Line (lengthFault g entries) (entries ≡ g .P)
-size-line g entries = fails-line _ _ TableLength (λ e. eqb-true entries (g .P) (not-false (eqb entries (g .P)) e), λ e. simp (eq-eqb entries (g .P) e))
+pub size-line : (P entries : ℕ) → Line (lengthFault P entries) (entries ≡ P)
+size-line P entries = fails-line _ _ TableLength (λ e. eqb-true entries P (not-false (eqb entries P) e), λ e. simp (eq-eqb entries P e))
 
 pub open-line : (j : Job) (t : List ℕ) → Line (openFault j (length t)) (Fitting j t)
-open-line j t = Iff·trans (table-line (job-line j then size-line (gameOf j) (length t) then end)) (λ h. (h .0, h .1 .0), λ h. (h .0, (h .1, tt)))
+open-line j t = Iff·trans (table-line (job-line j then size-line (gameOf j .P) (length t) then end)) (λ h. (h .0, h .1 .0), λ h. (h .0, (h .1, tt)))
+
+pub fitted-short : (g : Arena) (entries : ℕ) → entries ≢ g .pairs * (1 + g .letters) → Shut TableLength ≡ fitted g entries
+fitted-short g entries n = simp (ne-eqb entries (g .pairs * (1 + g .letters)) n)
+
+pub fitted-open : (g : Arena) (entries : ℕ) → entries ≡ g .pairs * (1 + g .letters) → Open g ≡ fitted g entries
+fitted-open g entries e = simp (eq-eqb entries (g .pairs * (1 + g .letters)) e)
 
 module _ (j : Job) (entries : ℕ) where
   pub opened-shut : (r : Refusal) → entered j ≡ Shut r → Shut r ≡ opened j entries
   unfolding opened
   opened-shut r e = simp (enter-shut j r e)
 
-  pub opened-length : jobFault j ≡ none → entries ≢ gameOf j .P → Shut TableLength ≡ opened j entries
+  pub opened-fitted : (g : Arena) → entered j ≡ Open g → fitted g entries ≡ opened j entries
   unfolding opened
-  opened-length e n = simp (e, ne-eqb entries (gameOf j .P) n)
-
-  pub opened-open : (g : Arena) → entered j ≡ Open g → entries ≡ gameOf j .P → Open g ≡ opened j entries
-  unfolding opened
-  opened-open g e n = simp (enter-open j g e .0, eq-eqb entries (gameOf j .P) n, enter-open j g e .1)
+  opened-fitted g e =
+      let (n, d) = enter-open j g e in
+      let length = lengthFault (gameOf j .P) entries in
+      ap (λ (h : Arena). fitted h entries) (sym d)
+      ∙ ap (λ (f : Fault). openedBy f (arenaOf (j .board) (modeOf (j .mode)))) (fault-alone length ∙ sym (ap (λ (f : Fault). firstFault (f ∷ length ∷ [])) n))
 
 -- ---- what an opened arena is
 

@@ -1,7 +1,7 @@
 -- The arena of a job, in which the calls on a table work, and that it fits the lent bytes.
 use mathlib.Core.Path.{_≡_}
 use mathlib.Core.List.{List}
-use Prim.Native.Nat.{ℕ}
+use Prim.Native.Nat.{ℕ, _+_, _*_}
 use lib.ListN.{length}
 use Rattle.games.specs.Game.{Game}
 use Rattle.automaton.specs.declared.Mode.{Mode}
@@ -13,7 +13,7 @@ use Rattle.arena.specs.declared.Arena.{Arena}
 use Rattle.arena.specs.declared.Opened.{Opened}
 use Rattle.arena.specs.declared.Opened.the-variants.{Open, Shut}
 use Rattle.arena.specs.Job.{Job, modeOf}
-use Rattle.arena.specs.Refusals.{jobFault, openFault}
+use Rattle.arena.specs.Refusals.{jobFault, lengthFault, openFault}
 
 -- the numbers of a board's game in a mode
 abbrev pub arenaOf : Board → Mode → Arena
@@ -40,6 +40,10 @@ openedBy (fault r) g = Shut r
 
 unfoldable pub entered : Job → Opened
 entered j = openedBy (jobFault j) (arenaOf (j .board) (modeOf (j .mode)))
+
+-- an arena again, with a table of so many entries: refusal 9
+abbrev pub fitted : Arena → (entries : ℕ) → Opened
+fitted g entries = openedBy (lengthFault (g .pairs * (1 + g .letters)) entries) g
 
 unfoldable pub opened : Job → (entries : ℕ) → Opened
 opened j entries = openedBy (openFault j entries) (arenaOf (j .board) (modeOf (j .mode)))

@@ -6,7 +6,6 @@ use mathlib.Core.List.{List, [], _∷_}
 use Prim.Native.Nat.{ℕ, _<_}
 use lib.Dec.{eqb}
 use lib.ListN.{length}
-use Rattle.games.specs.Game.{Game}
 use Rattle.automaton.specs.declared.Automaton.{Automaton}
 use Rattle.automaton.specs.declared.Named.the-variants.{Unknown}
 use Rattle.automaton.specs.declared.Refusal.the-variants.{TableLength}
@@ -23,12 +22,12 @@ abbrev pub jobFault : Job → Fault
 jobFault j = firstFault (automatonFault (j .board) (j .start) ∷ modeFault (j .mode) ∷ [])
 
 -- 9: "table length not P"
-abbrev pub lengthFault : Game → (entries : ℕ) → Fault
-lengthFault g entries = fails (not (eqb entries (g .P))) TableLength
+abbrev pub lengthFault : (P entries : ℕ) → Fault
+lengthFault P entries = fails (not (eqb entries P)) TableLength
 
 -- 1 to 9
 abbrev pub openFault : Job → (entries : ℕ) → Fault
-openFault j entries = firstFault (jobFault j ∷ lengthFault (gameOf j) entries ∷ [])
+openFault j entries = firstFault (jobFault j ∷ lengthFault (gameOf j .P) entries ∷ [])
 
 -- a call on a table of so many entries: first the refusals 1 to 9, then what it does in the game
 abbrev pub opening : {X : Type 0} → Job → (entries : ℕ) → (lent : X) → Effect X → Effect X

@@ -12,7 +12,7 @@ ghost use Rattle.automaton.specs.Limits.{mostLetters, mostStates};
 ghost use Rattle.simulation.specs.Position.{layers, pairs, positions};
 ghost use Rattle.simulation.specs.Rules.{bit, ceiling, eased, owed, pended};
 ghost use Rattle.arena.specs.Answers.{ofCounted};
-ghost use Rattle.arena.specs.Arena.{entered, opened};
+ghost use Rattle.arena.specs.Arena.{entered, fitted, opened};
 ghost use Rattle.arena.specs.Job.{jobOf};
 ghost use Rattle.arena.specs.Refusals.{sizing, topping};
 use automaton::Automaton;
@@ -176,8 +176,8 @@ fn top(a: Automaton, marks: &[u8], mode: Mode) -> u32
     }
 }
 
-// The arena of a checked automaton. Refusals 1 to 8.
-fn enter(a: Automaton, marks: &[u8], moves: &[u8], mode: usize) -> Opened
+// The arena of an automaton and a mode. Refusals 1 to 8.
+pub fn enter(a: Automaton, marks: &[u8], moves: &[u8], mode: usize) -> Opened
     ensures { λ r. ⌜ r ≡ entered (jobOf a (now (marks .entry)) (now (moves .entry)) mode) ⌝ }
 {
     let checked = automaton::check(a, marks, moves);
@@ -198,6 +198,18 @@ fn enter(a: Automaton, marks: &[u8], moves: &[u8], mode: usize) -> Opened
     }
 }
 
+// The arena, if a table of so many entries fits it. Refusal 9.
+pub fn fit(g: Arena, entries: usize) -> Opened
+    requires { ⌜ g .pairs ≤ 8192 ⌝ }
+    requires { ⌜ g .letters ≤ mostLetters ⌝ }
+    ensures { λ r. ⌜ r ≡ fitted g entries ⌝ }
+{
+    if entries != g.pairs * (1 + g.letters) {
+        return Opened::Shut(Refusal::TableLength);
+    }
+    Opened::Open(g)
+}
+
 // The arena for a table of so many entries. Refusals 1 to 9.
 pub fn for_table(a: Automaton, marks: &[u8], moves: &[u8], mode: usize, entries: usize) -> Opened
     ensures { λ r. ⌜ r ≡ opened (jobOf a (now (marks .entry)) (now (moves .entry)) mode) entries ⌝ }
@@ -205,12 +217,6 @@ pub fn for_table(a: Automaton, marks: &[u8], moves: &[u8], mode: usize, entries:
     let entered = enter(a, marks, moves, mode);
     match entered {
         Opened::Shut(refusal) => Opened::Shut(refusal),
-        Opened::Open(g) => {
-            let known = g.mode;
-            if entries != size(a, known) {
-                return Opened::Shut(Refusal::TableLength);
-            }
-            Opened::Open(g)
-        }
+        Opened::Open(g) => fit(g, entries),
     }
 }

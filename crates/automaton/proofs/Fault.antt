@@ -10,7 +10,7 @@ use borrow.Author.Tests.{ltb-false, le-ltb}
 use Rattle.automaton.specs.Answer.{Answer, numberOf, Fault, none, fault, fails, failsAt, firstFault, unless}
 use Rattle.automaton.specs.First.{first}
 use Rattle.automaton.specs.declared.Refusal.{Refusal}
-use Rattle.automaton.specs.declared.Refusal.the-variants.{States, Letters, Marks, Start, Bytes, Outside, Unsorted, ModeNumber, TableLength, AboveCeiling, PositionNumber, NotAtRest, SpoilerPosition, LostPosition, NoMove, OutputLength, LineForm, ProgramLimits, TooLong, Foreign, TooDeep}
+use Rattle.automaton.specs.declared.Refusal.the-variants.{States, Letters, Marks, Start, Bytes, Outside, Unsorted, ModeNumber, TableLength, AboveCeiling, PositionNumber, NotAtRest, SpoilerPosition, LostPosition, NoMove, OutputLength, WrongMode, LineForm, ProgramLimits, TooLong, Foreign, TooDeep}
 use Rattle.automaton.proofs.First.{first-lowest, first-none}
 
 -- the refusals have numbers from 1 to 24
@@ -31,6 +31,7 @@ refusal-numbered SpoilerPosition = (omega arith, omega arith)
 refusal-numbered LostPosition = (omega arith, omega arith)
 refusal-numbered NoMove = (omega arith, omega arith)
 refusal-numbered OutputLength = (omega arith, omega arith)
+refusal-numbered WrongMode = (omega arith, omega arith)
 refusal-numbered (LineForm line) = (omega arith, omega arith)
 refusal-numbered ProgramLimits = (omega arith, omega arith)
 refusal-numbered TooLong = (omega arith, omega arith)
@@ -98,6 +99,11 @@ pub faults-stopped : (fs gs : List Fault) (r : Refusal) → firstFault fs ≡ fa
 faults-stopped [] gs r e = absurd (found (sym e))
 faults-stopped (none ∷ fs) gs r e = faults-stopped fs gs r e
 faults-stopped (fault x ∷ fs) gs r e = e
+
+-- a table of one line
+pub fault-alone : (f : Fault) → f ≡ firstFault (f ∷ [])
+fault-alone none = refl
+fault-alone (fault r) = refl
 
 -- ---- from an answer back to what was at fault
 

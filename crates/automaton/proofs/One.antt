@@ -7,7 +7,7 @@ use lib.Dec.{eqb}
 use Rattle.automaton.specs.Answer.{Answer, accepted, refused, numberOf, placeOf, Fault, none, fault, unless}
 use Rattle.automaton.specs.Check.{answerOf}
 use Rattle.automaton.specs.declared.Refusal.{Refusal}
-use Rattle.automaton.specs.declared.Refusal.the-variants.{States, Letters, Marks, Start, Bytes, Outside, Unsorted, ModeNumber, TableLength, AboveCeiling, PositionNumber, NotAtRest, SpoilerPosition, LostPosition, NoMove, OutputLength, LineForm, ProgramLimits, TooLong, Foreign, TooDeep}
+use Rattle.automaton.specs.declared.Refusal.the-variants.{States, Letters, Marks, Start, Bytes, Outside, Unsorted, ModeNumber, TableLength, AboveCeiling, PositionNumber, NotAtRest, SpoilerPosition, LostPosition, NoMove, OutputLength, WrongMode, LineForm, ProgramLimits, TooLong, Foreign, TooDeep}
 use Rattle.automaton.specs.declared.Checked.{Checked}
 use Rattle.automaton.specs.declared.Checked.the-variants.{Sound, Refused}
 use Rattle.automaton.proofs.Fault.{refusal-numbered, unless-number}
@@ -31,11 +31,12 @@ refusalAt n p =
     (cond (eqb n 14) LostPosition
     (cond (eqb n 15) NoMove
     (cond (eqb n 16) OutputLength
+    (cond (eqb n 17) WrongMode
     (cond (eqb n 20) (LineForm p)
     (cond (eqb n 21) ProgramLimits
     (cond (eqb n 22) TooLong
     (cond (eqb n 23) (Foreign p)
-    (TooDeep p))))))))))))))))))))
+    (TooDeep p)))))))))))))))))))))
 
 refusalAt-is : (r : Refusal) → refusalAt (numberOf r) (placeOf r) ≡ r
 unfolding refusalAt
@@ -55,6 +56,7 @@ refusalAt-is SpoilerPosition = refl
 refusalAt-is LostPosition = refl
 refusalAt-is NoMove = refl
 refusalAt-is OutputLength = refl
+refusalAt-is WrongMode = refl
 refusalAt-is (LineForm line) = refl
 refusalAt-is ProgramLimits = refl
 refusalAt-is TooLong = refl

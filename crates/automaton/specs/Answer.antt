@@ -6,7 +6,7 @@ use lib.Dec.{ltb}
 use lib.ListN.{getD}
 use Rattle.automaton.specs.First.{first}
 use Rattle.automaton.specs.declared.Refusal.{Refusal}
-use Rattle.automaton.specs.declared.Refusal.the-variants.{States, Letters, Marks, Start, Bytes, Outside, Unsorted, ModeNumber, TableLength, AboveCeiling, PositionNumber, NotAtRest, SpoilerPosition, LostPosition, NoMove, OutputLength, LineForm, ProgramLimits, TooLong, Foreign, TooDeep}
+use Rattle.automaton.specs.declared.Refusal.the-variants.{States, Letters, Marks, Start, Bytes, Outside, Unsorted, ModeNumber, TableLength, AboveCeiling, PositionNumber, NotAtRest, SpoilerPosition, LostPosition, NoMove, OutputLength, WrongMode, LineForm, ProgramLimits, TooLong, Foreign, TooDeep}
 
 -- A number, a place and values; a call that names fewer than three values has 0 for the others.
 pub record Answer : Type 0 where
@@ -48,6 +48,7 @@ numberOf SpoilerPosition = 13
 numberOf LostPosition = 14
 numberOf NoMove = 15
 numberOf OutputLength = 16
+numberOf WrongMode = 17
 numberOf (LineForm line) = 20
 numberOf ProgramLimits = 21
 numberOf TooLong = 22
@@ -71,6 +72,7 @@ placeOf SpoilerPosition = 0
 placeOf LostPosition = 0
 placeOf NoMove = 0
 placeOf OutputLength = 0
+placeOf WrongMode = 0
 placeOf (LineForm line) = line
 placeOf ProgramLimits = 0
 placeOf TooLong = 0

@@ -14,7 +14,7 @@ use Rattle.games.specs.Lift.{Capped, Covers, AtRest, Least}
 use Rattle.automaton.specs.declared.Mode.the-variants.{Delayed, Fair}
 use Rattle.automaton.specs.declared.Refusal.{Refusal}
 use Rattle.automaton.specs.declared.Named.the-variants.{Unknown}
-use Rattle.automaton.specs.declared.Refusal.the-variants.{ModeNumber, TableLength}
+use Rattle.automaton.specs.declared.Refusal.the-variants.{ModeNumber, TableLength, WrongMode}
 use Rattle.automaton.specs.declared.Automaton.{Automaton}
 use Rattle.automaton.specs.Answer.{valued, numberOf, refused, Fault, none, fault}
 use Rattle.automaton.specs.Board.{Board, Formed, accepts}
@@ -28,14 +28,14 @@ use Rattle.simulation.specs.Rules.{ceiling, game}
 use Rattle.simulation.specs.Won.{Choices, Walks, Answered, WonPair}
 use Rattle.arena.specs.Job.{Job, modeOf, gameOf}
 use Rattle.arena.specs.Answers.{ofCounted}
-use Rattle.arena.specs.Refusals.{openFault, Proper, Fitting, sizing, topping}
+use Rattle.arena.specs.Refusals.{jobFault, openFault, Proper, Fitting, sizing, topping}
 use Rattle.table.specs.Answers.{ofCleared, ofLifted, ofRested, ofSettled}
 use Rattle.table.specs.Calls.{clearing, lifting, resting, settling}
 use Rattle.relation.specs.Answers.{ofRelated, ofReplied}
 use Rattle.relation.specs.Calls.{relating, replying, Answerable}
 use Rattle.relation.specs.Calls as of-relation
 use Rattle.quotient.specs.Answers.{ofMerged}
-use Rattle.quotient.specs.Calls.{Buffers, buffers, quotienting, written}
+use Rattle.quotient.specs.Calls.{Buffers, Mergeable, quotienting, written}
 use Rattle.quotient.specs.Calls as of-quotient
 use Rattle.lines.specs.Lines.{linesOf}
 use Rattle.text.specs.Answers.{ofReading}
@@ -62,7 +62,7 @@ use Rattle.table.proofs.AtRest.{rest-told, rest-either}
 use Rattle.table.proofs.One.{one-cleared, one-lifted, one-rested, one-settled}
 use Rattle.relation.proofs.Accepted.{relation-accepted, relation-refused, reply-accepted, reply-does}
 use Rattle.relation.proofs.One.{one-related, one-replied}
-use Rattle.quotient.proofs.Accepted.{quotient-accepted, quotient-refused}
+use Rattle.quotient.proofs.Accepted.{quotient-accepted, quotient-refused, quotient-wrong, quotient-length}
 use Rattle.quotient.proofs.One.{one-merged}
 use Rattle.quotient.proofs.Meaning as merging
 use Rattle.text.proofs.Accepted.{text-line, read-accepted, read-refused}
@@ -143,7 +143,7 @@ module _ (j : Job) (t : List ℕ) where
   pub reply-one : (v : ℕ) → One ofReplied (answering (replying j t v))
   reply-one v = one ofReplied (answering (replying j t v)) one-replied
 
-pub quotient-ends : (j : Job) (x : Buffers) → Ends x (quotienting j x) (Fitting j (x .table) × of-quotient.Sized (j .board) x)
+pub quotient-ends : (j : Job) (x : Buffers) → Ends x (quotienting j x) (Fitting j (x .table) × Mergeable (j .mode) × of-quotient.Sized (j .board) x)
 quotient-ends j x = record { accepted = quotient-accepted j x; refused = quotient-refused j x }
 
 pub quotient-one : (j : Job) (x : Buffers) → One ofMerged (quotienting j x)
@@ -163,7 +163,7 @@ report-ends text out = record { accepted = report-accepted text out; refused = r
 pub report-one : (text out : List ℕ) → One ofReported (reporting text out)
 report-one text out = one ofReported (reporting text out) one-reported
 
--- The refusals 1 to 9 are the same in every call on a table, and 1 to 7 those of `check`.
+-- The refusals 1 to 9 are the same in every call on a table but `quotient`, and 1 to 7 those of `check`.
 pub same-refusal : (j : Job) (t : List ℕ) (r : Refusal) → openFault j (length t) ≡ fault r
     → (clearing j t ≡ record { answer = refused r; left = t })
     × (settling j t ≡ record { answer = refused r; left = t })
@@ -171,24 +171,37 @@ pub same-refusal : (j : Job) (t : List ℕ) (r : Refusal) → openFault j (lengt
     × (resting j t ≡ refused r)
     × ((out : List ℕ) → relating j t out ≡ record { answer = refused r; left = out })
     × ((v : ℕ) → replying j t v ≡ refused r)
-    × ((classes marks moves : List ℕ) → quotienting j (buffers t classes marks moves) ≡ record { answer = refused r; left = buffers t classes marks moves })
-unfolding clearing settling lifting resting relating replying quotienting
-same-refusal j t r e = (simp e, simp e, λ v. simp e, simp e, λ out. simp e, λ v. simp e, λ classes marks moves. simp e)
+unfolding clearing settling lifting resting relating replying
+same-refusal j t r e = (simp e, simp e, λ v. simp e, simp e, λ out. simp e, λ v. simp e)
+
+-- `quotient` has the same refusals 1 to 8. After them it refuses the modes 0 and 3 with 17, whatever it is lent; in modes 1 and 2 it has 9 as the others do.
+module _ (j : Job) (x : Buffers) where
+  pub merge-same : (r : Refusal) → jobFault j ≡ fault r
+      → (openFault j (length (x .table)) ≡ fault r) × (quotienting j x ≡ record { answer = refused r; left = x })
+  unfolding quotienting
+  merge-same r e = (simp e, simp e)
+
+  pub merge-wrong : Proper j → (j .mode ≡ 0) ⊎ (j .mode ≡ 3) → quotienting j x ≡ record { answer = refused WrongMode; left = x }
+  merge-wrong = quotient-wrong j x
+
+  pub merge-length : Proper j → Mergeable (j .mode) → length (x .table) ≢ gameOf j .P → quotienting j x ≡ record { answer = refused TableLength; left = x }
+  merge-length = quotient-length j x
 
 -- "A malformed automaton" gets one of the refusals 1 to 7, from `check` and from every call on a table
 pub malformed-refused : (j : Job) (t : List ℕ) → ¬ (Formed (j .board) × (j .start < j .board .n))
-    → (r : Refusal) × (numberOf r ≤ 7) × (checked (j .board) (j .start) ≡ refused r) × (openFault j (length t) ≡ fault r)
+    → (r : Refusal) × (numberOf r ≤ 7) × (checked (j .board) (j .start) ≡ refused r) × (jobFault j ≡ fault r) × (openFault j (length t) ≡ fault r)
 unfolding checked
 malformed-refused j t n = go (automatonFault (j .board) (j .start)) refl
   where
     go : (f : Fault) → automatonFault (j .board) (j .start) ≡ f
-        → (r : Refusal) × (numberOf r ≤ 7) × (checked (j .board) (j .start) ≡ refused r) × (openFault j (length t) ≡ fault r)
+        → (r : Refusal) × (numberOf r ≤ 7) × (checked (j .board) (j .start) ≡ refused r) × (jobFault j ≡ fault r) × (openFault j (length t) ≡ fault r)
     go none e = absurd (n (automaton-line (j .board) (j .start) .0 e))
-    go (fault r) e = (r, automaton-to (j .board) (j .start) r e, simp e, simp e)
+    go (fault r) e = (r, automaton-to (j .board) (j .start) r e, simp e, simp e, simp e)
 
 -- "an unknown mode"
-pub unknown-refused : (j : Job) (t : List ℕ) → Formed (j .board) → j .start < j .board .n → nameOf (j .mode) ≡ Unknown → openFault j (length t) ≡ fault ModeNumber
-unknown-refused j t F s e = simp (automaton-line (j .board) (j .start) .1 (F, s), e)
+pub unknown-refused : (j : Job) (t : List ℕ) → Formed (j .board) → j .start < j .board .n → nameOf (j .mode) ≡ Unknown
+    → (jobFault j ≡ fault ModeNumber) × (openFault j (length t) ≡ fault ModeNumber)
+unknown-refused j t F s e = let sound = automaton-line (j .board) (j .start) .1 (F, s) in (simp (sound, e), simp (sound, e))
 
 -- "a table of wrong length"
 pub length-refused : (j : Job) (t : List ℕ) → Proper j → length t ≢ gameOf j .P → openFault j (length t) ≡ fault TableLength
@@ -275,6 +288,10 @@ module _ (j : Job) (x : Buffers) (told : quotienting j x .answer .number ≡ 0) 
 
   abbrev reduced : Board
   reduced = written (j .board .k) (quotienting j x)
+
+  -- in mode 1 or 2: in the others it would not keep the language (`mergedCases` of `simulation` has automaton C merged in each mode)
+  pub merged-mode : Mergeable (j .mode)
+  merged-mode = merging.merged-mode j x told
 
   pub merged-won : (q r : ℕ) → q < j .board .n → r < j .board .n
       → (class q ≡ class r) ↔ (WonPair (j .board) (modeOf (j .mode)) q r × WonPair (j .board) (modeOf (j .mode)) r q)

@@ -1,3 +1,4 @@
+pub mod Admission
 pub mod Outputs
 pub mod Accepted
 pub mod Meaning

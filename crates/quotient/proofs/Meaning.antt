@@ -23,7 +23,7 @@ use Rattle.laws.specs.Equivalence.{Equivalence}
 use Rattle.laws.proofs.Classes.{chiefBy-most}
 use Rattle.laws.proofs.Quotient.{class-below, class-order, class-onto, quotient-formed, mark-is}
 use Rattle.arena.specs.Job.{Job, modeOf}
-use Rattle.quotient.specs.Calls.{Buffers, merging, quotienting, written}
+use Rattle.quotient.specs.Calls.{Buffers, Mergeable, merging, quotienting, written}
 use Rattle.quotient.proofs.Accepted.{quotient-accepted, quotient-does}
 use Rattle.classing.proofs.Bytes.{class-at}
 
@@ -51,10 +51,13 @@ module _ (j : Job) (x : Buffers) (accepted : quotienting j x .answer .number ≡
   t = settled B m .table
 
   does : quotienting j x ≡ merging B m (j .start) t
-  does = let (f, s) = quotient-accepted j x .0 accepted in quotient-does j x f s
+  does = let (f, o, s) = quotient-accepted j x .0 accepted in quotient-does j x f o s
 
   formed : Formed B
   formed = quotient-accepted j x .0 accepted .0 .0 .0
+
+  pub merged-mode : Mergeable (j .mode)
+  merged-mode = quotient-accepted j x .0 accepted .1
 
   -- the class of a state, as it was written
   abbrev pub class : ℕ → ℕ

@@ -1,4 +1,4 @@
--- What `quotient` does where an arena was opened, by the lengths of its outputs.
+-- What `quotient` does where it is refused before its outputs are looked at, and where not, by their lengths.
 use mathlib.Core.Path.{_≡_, sym, ap, _∙_}
 use mathlib.Core.Logic.{_≢_}
 use mathlib.Core.Bool.{and-false}
@@ -7,16 +7,19 @@ use Prim.Native.Nat.{ℕ}
 use borrow.Author.Tests.{eq-eqb, ne-eqb}
 use lib.ListN.{length}
 use Rattle.automaton.specs.declared.Refusal.the-variants.{OutputLength}
+use Rattle.automaton.specs.declared.Refusal.{Refusal}
 use Rattle.automaton.specs.Answer.{refused, Fault, none, fault}
 use Rattle.automaton.specs.Board.{Board}
+use Rattle.automaton.specs.Effect.{does}
 use Rattle.simulation.specs.Answers.{settled}
 use Rattle.arena.specs.declared.Arena.{Arena}
-use Rattle.arena.specs.declared.Opened.the-variants.{Open}
-use Rattle.arena.specs.Arena.{boardIn, opened}
+use Rattle.arena.specs.declared.Opened.the-variants.{Open, Shut}
+use Rattle.arena.specs.Arena.{arenaOf, boardIn}
 use Rattle.arena.specs.Job.{Job, modeOf}
 use Rattle.arena.proofs.Open.{open-is}
-use Rattle.arena.proofs.Opening.{open-effect}
+use Rattle.quotient.specs.Admitted.{admitted}
 use Rattle.quotient.specs.Calls.{Buffers, merging, mergingUnless, outputFault, quotienting}
+use Rattle.quotient.proofs.Admission.{admit-shut, admit-open, opened-too}
 
 -- ---- refusal 16
 
@@ -35,15 +38,23 @@ module _ (B : Board) (x : Buffers) where
 
 -- ---- the call
 
-module _ (j : Job) (x : Buffers) (g : Arena) (o : opened j (length (x .table)) ≡ Open g) where
-  -- the arena has the board's states
-  pub states-are : g .states ≡ j .board .n
-  states-are = ap (λ (h : Arena). h .states) (sym (open-is j (x .table) g o .1))
+pub shut-refused : (j : Job) (x : Buffers) (r : Refusal) → admitted j (length (x .table)) ≡ Shut r → quotienting j x ≡ record { answer = refused r; left = x }
+unfolding quotienting
+shut-refused j x r e = ap (λ (f : Fault). does f x (mergingUnless (outputFault (j .board) x) j x)) (admit-shut j (length (x .table)) r e)
 
-  -- the refusals 1 to 9 do not apply
+module _ (j : Job) (x : Buffers) (g : Arena) (o : admitted j (length (x .table)) ≡ Open g) where
+  -- the arena is the board's
+  arena-is : arenaOf (j .board) (modeOf (j .mode)) ≡ g
+  arena-is = open-is j (x .table) g (opened-too j (length (x .table)) g o) .1
+
+  pub states-are : g .states ≡ j .board .n
+  states-are = ap (λ (h : Arena). h .states) (sym arena-is)
+
+  -- the refusals 1 to 8, 17 and 9 do not apply
   by-fault : (f : Fault) → outputFault (j .board) x ≡ f → quotienting j x ≡ mergingUnless f j x
   unfolding quotienting
-  by-fault f e = open-effect j (x .table) x (mergingUnless (outputFault (j .board) x) j x) g o ∙ ap (λ (k : Fault). mergingUnless k j x) e
+  by-fault f e =
+      ap (λ (k : Fault). does k x (mergingUnless (outputFault (j .board) x) j x)) (admit-open j (length (x .table)) g o) ∙ ap (λ (k : Fault). mergingUnless k j x) e
 
   misfit : outputFault (j .board) x ≡ fault OutputLength → quotienting j x ≡ record { answer = refused OutputLength; left = x }
   misfit e = by-fault (fault OutputLength) e
@@ -64,4 +75,4 @@ module _ (j : Job) (x : Buffers) (g : Arena) (o : opened j (length (x .table)) �
   merge-does c m v t e =
       by-fault none (outputs-fit (j .board) x (c ∙ states-are) (m ∙ states-are) v)
       ∙ ap (merging (j .board) (modeOf (j .mode)) (j .start)) (sym e)
-      ∙ ap (λ (h : Arena). merging (boardIn h (j .board .marks) (j .board .moves)) (h .mode) (j .start) t) (open-is j (x .table) g o .1)
+      ∙ ap (λ (h : Arena). merging (boardIn h (j .board .marks) (j .board .moves)) (h .mode) (j .start) t) arena-is

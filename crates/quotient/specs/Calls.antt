@@ -1,19 +1,21 @@
 -- "Quotient", for every input: what it answers, and all bytes of the four buffers lent to it.
 use mathlib.Core.Path.{_≡_}
-use mathlib.Core.Bool.{_&&_, not}
+use mathlib.Core.Logic.{_⊎_}
+use mathlib.Core.Bool.{Bool, true, false, _&&_, not}
 use mathlib.Core.List.{List, [], _∷_}
 use Prim.Native.Nat.{ℕ, _*_}
 use lib.Dec.{eqb}
 use lib.ListN.{length, getD, take}
 use Rattle.automaton.specs.declared.Mode.{Mode}
-use Rattle.automaton.specs.declared.Refusal.the-variants.{OutputLength}
-use Rattle.automaton.specs.Answer.{Answer, Fault, fails}
+use Rattle.automaton.specs.declared.Mode.the-variants.{Ordinary, Direct, Delayed, Fair}
+use Rattle.automaton.specs.declared.Refusal.the-variants.{OutputLength, WrongMode}
+use Rattle.automaton.specs.Answer.{Answer, Fault, fails, firstFault}
 use Rattle.automaton.specs.Board.{Board}
 use Rattle.automaton.specs.Effect.{Effect, does}
 use Rattle.simulation.specs.Answers.{settled}
 use Rattle.simulation.specs.Quotient.{classOf, classCount, classBytes, markBytes, moveCount, moveBytes}
-use Rattle.arena.specs.Job.{Job, modeOf}
-use Rattle.arena.specs.Refusals.{opening}
+use Rattle.arena.specs.Job.{Job, modeOf, gameOf}
+use Rattle.arena.specs.Refusals.{jobFault, lengthFault}
 
 -- what the lent buffers hold: the table, and the classes, marks and moves written
 pub record Buffers : Type 0 where
@@ -24,6 +26,25 @@ pub record Buffers : Type 0 where
 
 abbrev pub buffers : (table classes marks moves : List ℕ) → Buffers
 buffers t classes marks moves = record { table = t; classes = classes; marks = marks; moves = moves }
+
+-- "Quotients are formed in modes 1 and 2 only"
+abbrev pub merges : Mode → Bool
+merges Ordinary = false
+merges Direct = true
+merges Delayed = true
+merges Fair = false
+
+-- the numbers of these modes
+abbrev pub Mergeable : (mode : ℕ) → Type 0
+Mergeable mode = (mode ≡ 1) ⊎ (mode ≡ 2)
+
+-- 17: "quotient in mode 0 or 3"
+abbrev pub mergeFault : Mode → Fault
+mergeFault m = fails (not (merges m)) WrongMode
+
+-- 1 to 8; then 17, "after 8 and before 9"; then 9
+abbrev pub admitFault : Job → (entries : ℕ) → Fault
+admitFault j entries = firstFault (jobFault j ∷ mergeFault (modeOf (j .mode)) ∷ lengthFault (gameOf j .P) entries ∷ [])
 
 -- the outputs have "n bytes", "n bytes", and "same length as the input's moves"
 abbrev pub Sized : Board → Buffers → Type 0
@@ -50,7 +71,7 @@ abbrev pub mergingUnless : Fault → Job → (lent : Buffers) → Effect Buffers
 mergingUnless f j x = let m = modeOf (j .mode) in does f x (merging (j .board) m (j .start) (settled (j .board) m .table))
 
 unfoldable pub quotienting : Job → (lent : Buffers) → Effect Buffers
-quotienting j x = opening j (length (x .table)) x (mergingUnless (outputFault (j .board) x) j x)
+quotienting j x = does (admitFault j (length (x .table))) x (mergingUnless (outputFault (j .board) x) j x)
 
 -- ---- reading it back
 

@@ -5,11 +5,13 @@ ghost use Prim.Native.Nat.{_<_};
 ghost use lib.ListN.{length};
 ghost use Rattle.arena.specs.Arena.{boardIn, Ready};
 ghost use Rattle.arena.specs.Job.{jobOf};
+ghost use Rattle.quotient.specs.Admitted.{admitted};
 ghost use Rattle.quotient.specs.Answers.{ofMerged};
-ghost use Rattle.quotient.specs.Calls.{buffers, merging, quotienting};
+ghost use Rattle.quotient.specs.Calls.{buffers, merges, merging, quotienting};
 use arena::Arena;
 use arena::Opened;
 use automaton::Automaton;
+use automaton::Mode;
 use automaton::Refusal;
 use automaton::wide;
 
@@ -20,7 +22,7 @@ pub enum Merged {
 }
 
 // Settles the table and merges the states that it calls equal. Written are the class of each state, a mark for each class,
-// and the moves between classes, sorted and each once; unused bytes are 255. Refusals 1 to 9, and 16.
+// and the moves between classes, sorted and each once; unused bytes are 255. Refusals 1 to 8, then 17, 9 and 16.
 pub fn quotient(
     a: Automaton,
     marks: &[u8],
@@ -34,7 +36,7 @@ pub fn quotient(
     ensures { λ r. ⌜ ofMerged r ≡ quotienting (jobOf a (now (marks .entry)) (now (moves .entry)) mode) (buffers (now (table .entry)) (now (classes .entry)) (now (classmarks .entry)) (now (classmoves .entry))) .answer ⌝ }
     ensures { λ r. ⌜ buffers (now (table .exit)) (now (classes .exit)) (now (classmarks .exit)) (now (classmoves .exit)) ≡ quotienting (jobOf a (now (marks .entry)) (now (moves .entry)) mode) (buffers (now (table .entry)) (now (classes .entry)) (now (classmarks .entry)) (now (classmoves .entry))) .left ⌝ }
 {
-    let opened = arena::for_table(a, marks, moves, mode, table.len());
+    let opened = admit(a, marks, moves, mode, table.len());
     match opened {
         Opened::Shut(refusal) => Merged::Refused(refusal),
         Opened::Open(g) => {
@@ -59,6 +61,35 @@ pub fn quotient(
                 classmarks,
                 classmoves,
             )
+        }
+    }
+}
+
+// Are quotients formed in this mode? In the others they would not keep the language.
+fn merges(mode: Mode) -> bool
+    ensures { λ r. ⌜ r ≡ merges mode ⌝ }
+{
+    match mode {
+        Mode::Ordinary => false,
+        Mode::Direct => true,
+        Mode::Delayed => true,
+        Mode::Fair => false,
+    }
+}
+
+// The arena of a quotient, for a table of so many entries. Refusals 1 to 8, then 17 and 9.
+fn admit(a: Automaton, marks: &[u8], moves: &[u8], mode: usize, entries: usize) -> Opened
+    ensures { λ r. ⌜ r ≡ admitted (jobOf a (now (marks .entry)) (now (moves .entry)) mode) entries ⌝ }
+{
+    let entered = arena::enter(a, marks, moves, mode);
+    match entered {
+        Opened::Shut(refusal) => Opened::Shut(refusal),
+        Opened::Open(g) => {
+            let known = g.mode;
+            if !merges(known) {
+                return Opened::Shut(Refusal::WrongMode);
+            }
+            arena::fit(g, entries)
         }
     }
 }

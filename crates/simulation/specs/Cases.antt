@@ -1,19 +1,20 @@
--- "Small automata worked out": the cases marked p, as one list.
+-- "Small automata worked out": the cases marked p, as one list. After it, cases that show slips, and C merged in each mode.
 use mathlib.Core.Path.{_≡_}
 use mathlib.Core.List.{List, [], _∷_}
-use Prim.Native.Nat.{ℕ}
-use lib.ListN.{take}
+use Prim.Native.Nat.{ℕ, _/_}
+use lib.ListN.{length, take}
 use Rattle.games.specs.Game.{at}
 use Rattle.games.specs.Lift.{cleared, lifts}
 use Rattle.automaton.specs.declared.Mode.{Mode}
 use Rattle.automaton.specs.declared.Mode.the-variants.{Ordinary, Direct, Delayed, Fair}
 use Rattle.automaton.specs.declared.Refusal.the-variants.{SpoilerPosition}
 use Rattle.automaton.specs.Answer.{Answer, valued, refused}
-use Rattle.automaton.specs.Board.{Board}
+use Rattle.automaton.specs.Board.{Board, accepts, to}
+use Rattle.automaton.specs.First.{some}
 use Rattle.simulation.specs.Position.{pairs}
-use Rattle.simulation.specs.Rules.{ceiling, game}
+use Rattle.simulation.specs.Rules.{bit, ceiling, game}
 use Rattle.simulation.specs.Answers.{settled, relation, replyAt}
-use Rattle.simulation.specs.Quotient.{classOf, classCount, classBytes, markBytes, moveCount, moveBytes}
+use Rattle.simulation.specs.Quotient.{classOf, classCount, classBytes, markBytes, moveCount, moveBytes, quotientOf}
 
 -- "One letter each. A: 0 to 1, 1 to 0, accept 1."
 abbrev pub boardA : Board
@@ -132,4 +133,35 @@ slips =
     ∷ answers (replyAt boardChoice Delayed (tableOf boardChoice Delayed) 14) (valued 1)
     -- classes in the order of their least members, and not of their greatest
     ∷ numbers (classBytes boardApart Direct (tableOf boardApart Direct)) (0 ∷ 1 ∷ 0 ∷ [])
+    ∷ []
+
+-- ---- Why quotients are formed in modes 1 and 2 only (001, section 5)
+
+-- C merged by its table of a mode
+abbrev pub mergedC : Mode → Board
+mergedC m = quotientOf boardC m (tableOf boardC m)
+
+-- 1 if some move leads to an accepting state
+abbrev pub toAccepting : Board → ℕ
+toAccepting B = bit (some (λ i. accepts B (to (B .moves) i)) (length (B .moves) / 3))
+
+abbrev pub mergedCases : List Case
+mergedCases =
+    -- No move of C leads to an accepting state, so "C accepts none".
+    number (toAccepting boardC) 0
+    -- mode 3: "one accepting class with a loop, which accepts a word"
+    ∷ number (mergedC Fair .n) 1
+    ∷ numbers (mergedC Fair .marks) (1 ∷ [])
+    ∷ numbers (mergedC Fair .moves) (0 ∷ 0 ∷ 0 ∷ [])
+    -- mode 0: the same
+    ∷ number (mergedC Ordinary .n) 1
+    ∷ numbers (mergedC Ordinary .marks) (1 ∷ [])
+    ∷ numbers (mergedC Ordinary .moves) (0 ∷ 0 ∷ 0 ∷ [])
+    -- modes 1 and 2: as it was
+    ∷ number (mergedC Direct .n) 2
+    ∷ numbers (mergedC Direct .marks) (boardC .marks)
+    ∷ numbers (mergedC Direct .moves) (boardC .moves)
+    ∷ number (mergedC Delayed .n) 2
+    ∷ numbers (mergedC Delayed .marks) (boardC .marks)
+    ∷ numbers (mergedC Delayed .moves) (boardC .moves)
     ∷ []

@@ -1,4 +1,4 @@
-// Document 01's cases that are not marked p, on the calls themselves, and a wrong number of marks.
+// Document 01's cases that are not marked p, on the calls themselves; a wrong number of marks; and which modes a quotient is formed in.
 use super::told;
 use automaton::Automaton;
 use compare::print;
@@ -63,8 +63,36 @@ fn check_marks(count: usize) -> usize {
     99
 }
 
+// The number that `quotient` gives automaton C in a mode, with a table of so many entries.
+fn merge_c(mode: usize, size: usize) -> usize {
+    let a = Automaton {
+        states: 2,
+        letters: 1,
+        start: 0,
+    };
+    let marks = [1u8, 0];
+    let moves = [0u8, 0, 1, 1, 0, 1];
+    let mut entries = [9u32; 16];
+    let mut classes = [0u8; 2];
+    let mut classmarks = [0u8; 2];
+    let mut classmoves = [0u8; 6];
+    if 16 < size {
+        return 99;
+    }
+    told::of_merged(quotient::quotient(
+        a,
+        &marks,
+        &moves,
+        mode,
+        &mut entries[0..size],
+        &mut classes,
+        &mut classmarks,
+        &mut classmoves,
+    )).number
+}
+
 // Prints the cases: states, letters and the number of the check; states, marks and the place of refusal 3; the two positions lifted
-// and entry 15.
+// and entry 15; mode, entries and the number of the quotient.
 pub fn run() {
     show(b"check", 64, 1, check_sizes(64, 1));
     show(b"check", 0, 1, check_sizes(0, 1));
@@ -75,4 +103,10 @@ pub fn run() {
     show(b"marks", 2, 3, check_marks(3));
     show(b"lifts", 15, 6, lift_two(15, 6) as usize);
     show(b"lifts", 6, 15, lift_two(6, 15) as usize);
+    show(b"merged", 0, 8, merge_c(0, 8));
+    show(b"merged", 1, 8, merge_c(1, 8));
+    show(b"merged", 2, 16, merge_c(2, 16));
+    show(b"merged", 3, 8, merge_c(3, 8));
+    show(b"merged", 1, 7, merge_c(1, 7));
+    show(b"merged", 3, 7, merge_c(3, 7));
 }

@@ -1,5 +1,6 @@
 // A job for the calls: automaton A of document 01 in mode 2 with its settled table, and the faults of some of the refusals, each by
-// its number. Nothing makes refusal 15: a table at rest has T where Blue has no move, so 12 or 14 is given first.
+// its number. With the fault of refusal 17 it is a job in mode 0, where the settled table has eight entries of 0. Nothing makes
+// refusal 15: a table at rest has T where Blue has no move, so 12 or 14 is given first.
 ghost use Prim.Native.Nat.{_≤_};
 use automaton::Automaton;
 
@@ -62,16 +63,21 @@ pub fn bytes_with(faults: Faults) -> usize
     6
 }
 
-// Mode 4 for refusal 8.
+// Mode 4 for refusal 8, else mode 0 for 17.
 pub fn mode_with(faults: Faults) -> usize {
-    pick(faults, 8, 4, 2)
+    pick(faults, 8, 4, pick(faults, 17, 0, 2))
 }
 
-// All entries lost for refusal 14, entry 4 not at rest for 12, entry 3 above T = 3 for 10.
+// All entries lost for refusal 14, entry 4 not at rest for 12, entry 3 above T for 10. T is 3, and 1 in mode 0.
 pub fn table_with(faults: Faults) -> [u32; 16] {
     let mut entries = [0u32, 0, 0, 0, 1, 0, 1, 0, 0, 0, 0, 0, 0, 1, 0, 1];
+    let mut lost = 3u32;
+    if has(faults, 17) {
+        entries = [0u32; 16];
+        lost = 1;
+    }
     if has(faults, 14) {
-        entries = [3u32; 16];
+        entries = [lost; 16];
     }
     if has(faults, 12) {
         entries[4] = 0;
@@ -82,19 +88,22 @@ pub fn table_with(faults: Faults) -> [u32; 16] {
     entries
 }
 
-// Fifteen entries for refusal 9.
+// Fifteen entries for refusal 9, which is no table's length in either mode.
 pub fn entries_with(faults: Faults) -> usize
     ensures { λ r. ⌜ r ≤ 16 ⌝ }
 {
     if has(faults, 9) {
         return 15;
     }
+    if has(faults, 17) {
+        return 8;
+    }
     16
 }
 
-// Position 16 for refusal 11, Spoiler's position 7 for 13, else Duplicator's position 15.
+// Position 16 for refusal 11, Spoiler's position 3 for 13, else a Duplicator's position: the last one.
 pub fn position_with(faults: Faults) -> usize {
-    pick(faults, 11, 16, pick(faults, 13, 7, 15))
+    pick(faults, 11, 16, pick(faults, 13, 3, pick(faults, 17, 7, 15)))
 }
 
 // Each output is a byte short for refusal 16.

@@ -13,7 +13,7 @@ use libc::STDOUT_FILENO;
 // The number of calls, and of refusals.
 const CALLS: usize = 12;
 
-const REFUSALS: usize = 16;
+const REFUSALS: usize = 17;
 
 // What the outputs hold before a call.
 const UNWRITTEN: u8 = 7;

@@ -1,4 +1,4 @@
--- `quotient::quotient` meets its contract: refusals 1 to 9 and 16 are decided before the table is settled and the quotient by it is written.
+-- `quotient::quotient` meets its contract: refusals 1 to 8, 17, 9 and 16 are decided before the table is settled and the quotient by it is written.
 use mathlib.Core.Path.{_≡_, sym, ap, _∙_}
 use mathlib.Core.List.{List}
 use Prim.Native.Nat.{ℕ}
@@ -10,44 +10,44 @@ use Rattle.automaton.proofs.Effects.{both}
 use Rattle.simulation.specs.Answers.{settled}
 use Rattle.arena.specs.declared.Arena.{Arena}
 use Rattle.arena.specs.declared.Opened.the-variants.{Open}
-use Rattle.arena.specs.Arena.{opened}
 use Rattle.arena.specs.Job.{Job, jobOf, modeOf}
 use Rattle.arena.specs.Refusals.{Fitting}
-use Rattle.arena.proofs.Open.{open-fault, open-line, open-ready, ready-again}
-use Rattle.arena.proofs.Opening.{shut-effect}
+use Rattle.arena.proofs.Open.{open-ready, ready-again}
 use Rattle.table.proofs.Accepted.{settle-does}
-use Rattle.quotient.specs.Calls.{Buffers, buffers, quotienting}
-use Rattle.quotient.proofs.Outputs.{classes-refused, marks-refused, moves-refused, merge-does, states-are}
+use Rattle.quotient.specs.Admitted.{admitted}
+use Rattle.quotient.specs.Calls.{Buffers, buffers}
+use Rattle.quotient.proofs.Admission.{admit-line, admit-open, opened-too}
+use Rattle.quotient.proofs.Outputs.{shut-refused, classes-refused, marks-refused, moves-refused, merge-does, states-are}
 use Rattle.quotient.proofs.quotient.Statement.{statement}
 use Rattle.quotient.proofs.quotient.Tie as tie
 
-abbrev begun : tie.After-for-table → tie.Start
+abbrev begun : tie.After-admit → tie.Start
 begun c = c .before .before .before .before .before .before .before
 
-abbrev job : tie.After-for-table → Job
+abbrev job : tie.After-admit → Job
 job c = let s = begun c in jobOf (s .args .a) (s .args .marks .now) (s .args .moves .now) (s .args .mode)
 
 -- what the four buffers hold before the call
-abbrev lent : tie.After-for-table → Buffers
+abbrev lent : tie.After-admit → Buffers
 lent c = let s = begun c in buffers (s .args .table .now) (s .args .classes .now) (s .args .classmarks .now) (s .args .classmoves .now)
 
--- the place after `for_table`, from the place where its arena is known
-abbrev entered : tie.After-opened2 → tie.After-for-table
+-- the place after `admit`, from the place where its arena is known
+abbrev entered : tie.After-opened2 → tie.After-admit
 entered c = c .before .before
 
 -- the arena that was opened
 abbrev arena : tie.After-opened2 → Arena
 arena c = c .opened2 .given .0 .0
 
-is-open : (c : tie.After-opened2) → opened (job (entered c)) (length (lent (entered c) .table)) ≡ Open (arena c)
-is-open c = sym (entered c .for-table .ensures) ∙ c .opened2 .given .1
+is-open : (c : tie.After-opened2) → admitted (job (entered c)) (length (lent (entered c) .table)) ≡ Open (arena c)
+is-open c = sym (entered c .admit .ensures) ∙ c .opened2 .given .1
 
--- what opening an arena asked for
+-- what being admitted asked for
 fitting : (c : tie.After-opened2) → Fitting (job (entered c)) (lent (entered c) .table)
-fitting c = let d = entered c in open-line (job d) (lent d .table) .0 (open-fault (job d) (lent d .table) (arena c) (is-open c))
+fitting c = let d = entered c in admit-line (job d) (lent d .table) .0 (admit-open (job d) (length (lent d .table)) (arena c) (is-open c)) .0
 
-for-table-requires : tie.Need-for-table-requires
-for-table-requires c κs = search needs
+admit-requires : tie.Need-admit-requires
+admit-requires c κs = search needs
 
 enum-known-opened : tie.Need-enum-known-opened
 enum-known-opened c = search needs
@@ -100,7 +100,7 @@ merge-requires c κs =
     let o = before-settle e in
     let d = entered o in
     let three = e .before .before in (
-      ready-again (arena o) (job d .board .marks) (job d .board .moves) (lent d .table) (table e) (open-ready (job d) (lent d .table) (arena o) (is-open o)) (e .settle .kept .1 .1 .1 .1 .0),
+      ready-again (arena o) (job d .board .marks) (job d .board .moves) (lent d .table) (table e) (open-ready (job d) (lent d .table) (arena o) (opened-too (job d) (length (lent d .table)) (arena o) (is-open o))) (e .settle .kept .1 .1 .1 .1 .0),
       (
         omega (arith, fitting o .0 .1, states-are (job d) (lent d) (arena o) (is-open o)),
         (omega (arith, three .before .before .if1 .left), omega (arith, three .before .if2 .left), omega (arith, three .if3 .left)),
@@ -108,10 +108,9 @@ merge-requires c κs =
     )
 
 returns-4 : tie.Need-returns-4
-unfolding quotienting
 returns-4 c =
     let d = c .before .before .before in
-    both (sym (shut-effect (job d) (lent d .table) (lent d) _ (c .before .opened .given .0 .0) (sym (d .for-table .ensures) ∙ c .before .opened .given .1)))
+    both (sym (shut-refused (job d) (lent d) (c .before .opened .given .0 .0) (sym (d .admit .ensures) ∙ c .before .opened .given .1)))
 
 same-length : tie.Need-same-length
 same-length c = search needs
@@ -141,7 +140,7 @@ pub quotient-spec : {M : Type 1} → statement M
 quotient-spec =
     tie.close
     (tie.spec
-    for-table-requires
+    admit-requires
     enum-known-opened
     enum-known-opened-2
     returns

@@ -53,14 +53,17 @@ enum-told-10 c = search needs
 enum-told-11 : tie.Need-enum-told-11
 enum-told-11 c = search needs
 
-enum-known-self-6 : tie.Need-enum-known-self-6
-enum-known-self-6 c = search needs
-
 enum-told-12 : tie.Need-enum-told-12
 enum-told-12 c = search needs
 
+enum-known-self-6 : tie.Need-enum-known-self-6
+enum-known-self-6 c = search needs
+
 enum-told-13 : tie.Need-enum-told-13
 enum-told-13 c = search needs
+
+enum-told-14 : tie.Need-enum-told-14
+enum-told-14 c = search needs
 
 enum-known-self-7 : tie.Need-enum-known-self-7
 enum-known-self-7 c = search needs
@@ -117,19 +120,22 @@ returns-16 : tie.Need-returns-16
 returns-16 c = sym (ap placeOf (c .enum-told11 .given .1))
 
 returns-17 : tie.Need-returns-17
-returns-17 c = sym (ap placeOf (c .before .self6 .given .1))
+returns-17 c = sym (ap placeOf (c .enum-told12 .given .1))
 
 returns-18 : tie.Need-returns-18
-returns-18 c = sym (ap placeOf (c .enum-told12 .given .1))
+returns-18 c = sym (ap placeOf (c .before .self6 .given .1))
 
 returns-19 : tie.Need-returns-19
 returns-19 c = sym (ap placeOf (c .enum-told13 .given .1))
 
 returns-20 : tie.Need-returns-20
-returns-20 c = sym (ap placeOf (c .before .self7 .given .1))
+returns-20 c = sym (ap placeOf (c .enum-told14 .given .1))
 
 returns-21 : tie.Need-returns-21
-returns-21 c = sym (ap placeOf (c .before .self8 .given .1))
+returns-21 c = sym (ap placeOf (c .before .self7 .given .1))
+
+returns-22 : tie.Need-returns-22
+returns-22 c = sym (ap placeOf (c .before .self8 .given .1))
 
 pub place-spec : {M : Type 1} → statement M
 place-spec =
@@ -151,9 +157,10 @@ place-spec =
     enum-told-9
     enum-told-10
     enum-told-11
-    enum-known-self-6
     enum-told-12
+    enum-known-self-6
     enum-told-13
+    enum-told-14
     enum-known-self-7
     enum-known-self-8
     returns
@@ -176,4 +183,5 @@ place-spec =
     returns-18
     returns-19
     returns-20
-    returns-21)
+    returns-21
+    returns-22)

@@ -5,10 +5,10 @@ use Rattle.trials.proofs.refusals.row.Statement.{statement}
 use Rattle.trials.proofs.refusals.row.Tie as tie
 
 abbrev Inv-loop : tie.InvT-loop
-Inv-loop call later written₀ number₀ t5 written number = number ≤ 17
+Inv-loop call later written₀ number₀ t5 written number = number ≤ 18
 
 abbrev μ-loop : tie.MeasureT-loop
-μ-loop call later written₀ number₀ t5 written number = 17 - number
+μ-loop call later written₀ number₀ t5 written number = 18 - number
 
 print-name-requires : tie.Need-print-name-requires Inv-loop μ-loop
 print-name-requires c κs = search needs
