@@ -21,6 +21,7 @@ use Rattle.automaton.specs.Board.{Board, Formed, accepts}
 use Rattle.automaton.specs.Check.{answerOf, automatonFault, limited, checked}
 use Rattle.automaton.specs.Limits.{mostStates, mostLetters, nameOf}
 use Rattle.simulation.specs.Answers.{below, settled, replies}
+use Rattle.simulation.specs.Cases.{AllHold, mergedCases}
 use Rattle.simulation.specs.Meaning.{LowestLeast, Brings, ahead, tallyAll, Leaves}
 use Rattle.simulation.specs.Moves.{Moves}
 use Rattle.simulation.specs.Position.{Position, spoiler, duplicator, number, Fits}
@@ -51,6 +52,7 @@ use Rattle.demands.specs.Order.{Call, AllOrderly, after, raised, duePosi
 -- the proofs
 use Rattle.automaton.proofs.One.{one-result}
 use Rattle.automaton.proofs.Sound.{automaton-line, automaton-to, sound}
+use Rattle.simulation.proofs.Cases as worked
 use Rattle.simulation.proofs.Meaning as playing
 use Rattle.simulation.proofs.Relation.{relation-rest, relation-least}
 use Rattle.simulation.proofs.Reply.{has-move, reply-lowest-least}
@@ -280,7 +282,7 @@ printed text = (
     refusal n none e = absurd (n (text-line text .0 e))
     refusal n (fault r) e = (r, e, report-refused text r e)
 
--- What the stamp is set on: an accepted `quotient` merges exactly the states that are won against each other both ways,
+-- What the stamp is set on: an accepted `quotient`
 module _ (j : Job) (x : Buffers) (told : quotienting j x .answer .number ≡ 0) where
   -- the class of a state, and the automaton that was written
   abbrev class : ℕ → ℕ
@@ -289,10 +291,11 @@ module _ (j : Job) (x : Buffers) (told : quotienting j x .answer .number ≡ 0) 
   abbrev reduced : Board
   reduced = written (j .board .k) (quotienting j x)
 
-  -- in mode 1 or 2: in the others it would not keep the language (`mergedCases` of `simulation` has automaton C merged in each mode)
+  -- is in mode 1 or 2,
   pub merged-mode : Mergeable (j .mode)
   merged-mode = merging.merged-mode j x told
 
+  -- merges exactly the states that are won against each other both ways,
   pub merged-won : (q r : ℕ) → q < j .board .n → r < j .board .n
       → (class q ≡ class r) ↔ (WonPair (j .board) (modeOf (j .mode)) q r × WonPair (j .board) (modeOf (j .mode)) r q)
   merged-won = merging.merged-won j x told
@@ -319,6 +322,10 @@ module _ (j : Job) (x : Buffers) (told : quotienting j x .answer .number ≡ 0) 
   -- and names the start's class.
   pub merged-start : getD (quotienting j x .answer .values) 2 0 ≡ class (j .start)
   merged-start = merging.merged-start j x told
+
+-- Why not in the other modes: document 01's automaton C, which accepts no word, becomes one accepting class with a loop in fair and in ordinary mode.
+pub merged-C : AllHold mergedCases
+merged-C = worked.merged
 
 -- ==== Demand 3
 -- "Start from a cleared table, one automaton and one mode, with nobody else writing the table.
