@@ -122,8 +122,8 @@ lucorphane_answer lucorphane_reply(uint64_t n, uint64_t k, uint64_t start, const
  * classes, value[1] the number of moves, value[2] the class of start.
  * A quotient by ordinary or fair simulation may accept words that the automaton does not: 0 to 1 and a loop on 1, with 0
  * accepting, accepts none, and would become one accepting state with a loop. So modes 0 and 3 are refused with 17, whatever
- * the lengths of the buffers. That a quotient in mode 1 or 2 accepts the same words is known and not promised here.
- * Refusals 1 to 8, then 17, 9 and 16. */
+ * the lengths of the table and of the outputs. That a quotient in mode 1 or 2 accepts the same words is known and not
+ * promised here. Refusals 1 to 8, then 17, 9 and 16. */
 lucorphane_answer lucorphane_quotient(uint64_t n, uint64_t k, uint64_t start, const uint8_t *accept, size_t accept_len,
                                       const uint8_t *moves, size_t moves_len, uint64_t mode, uint32_t *table,
                                       size_t table_len, uint8_t *classes, size_t classes_len, uint8_t *marks,

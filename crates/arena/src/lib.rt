@@ -3,13 +3,13 @@
 ghost use mathlib.Core.Path.{_≡_};
 ghost use mathlib.Core.Bool.{true};
 ghost use mathlib.Core.List.{[]};
-ghost use Prim.Native.Nat.{_≤_};
+ghost use Prim.Native.Nat.{_+_, _*_, _≤_};
 ghost use lib.Dec.{eqb};
 ghost use lib.ListN.{length, getD};
 ghost use Rattle.games.specs.Play.{count};
 ghost use Rattle.automaton.specs.Board.{boardOf};
 ghost use Rattle.automaton.specs.Limits.{mostLetters, mostStates};
-ghost use Rattle.simulation.specs.Position.{layers, pairs, positions};
+ghost use Rattle.simulation.specs.Position.{layers, pairs};
 ghost use Rattle.simulation.specs.Rules.{bit, ceiling, eased, owed, pended};
 ghost use Rattle.arena.specs.Answers.{ofCounted};
 ghost use Rattle.arena.specs.Arena.{entered, fitted, opened};
@@ -54,7 +54,7 @@ pub fn positions(a: Automaton, mode: usize) -> Counted
     let named = Mode::named(mode);
     match named {
         Named::Unknown => Counted::Refused(Refusal::ModeNumber),
-        Named::Known(known) => Counted::Number(size(a, known)),
+        Named::Known(known) => Counted::Number(size(pairs_of(a, known), a.letters)),
     }
 }
 
@@ -136,13 +136,13 @@ fn pairs_of(a: Automaton, mode: Mode) -> usize
     layers_of(mode) * (states * states)
 }
 
-// P, the number of positions.
-fn size(a: Automaton, mode: Mode) -> usize
-    requires { ⌜ a .states ≤ mostStates ⌝ }
-    requires { ⌜ a .letters ≤ mostLetters ⌝ }
-    ensures { λ r. ⌜ r ≡ positions (boardOf a [] []) mode ⌝ }
+// P, the number of positions, by that of Spoiler's.
+fn size(pairs: usize, letters: usize) -> usize
+    requires { ⌜ pairs ≤ 8192 ⌝ }
+    requires { ⌜ letters ≤ mostLetters ⌝ }
+    ensures { λ r. ⌜ r ≡ pairs * (1 + letters) ⌝ }
 {
-    pairs_of(a, mode) * (1 + a.letters)
+    pairs * (1 + letters)
 }
 
 // The number of accepting states.
@@ -204,7 +204,7 @@ pub fn fit(g: Arena, entries: usize) -> Opened
     requires { ⌜ g .letters ≤ mostLetters ⌝ }
     ensures { λ r. ⌜ r ≡ fitted g entries ⌝ }
 {
-    if entries != g.pairs * (1 + g.letters) {
+    if entries != size(g.pairs, g.letters) {
         return Opened::Shut(Refusal::TableLength);
     }
     Opened::Open(g)

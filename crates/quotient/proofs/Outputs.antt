@@ -1,4 +1,4 @@
--- What `quotient` does where it is refused before its outputs are looked at, and where not, by their lengths.
+-- What `quotient` does where it is not admitted, and where it is, by the lengths of its outputs.
 use mathlib.Core.Path.{_≡_, sym, ap, _∙_}
 use mathlib.Core.Logic.{_≢_}
 use mathlib.Core.Bool.{and-false}
@@ -6,8 +6,8 @@ use mathlib.Core.List.{List}
 use Prim.Native.Nat.{ℕ}
 use borrow.Author.Tests.{eq-eqb, ne-eqb}
 use lib.ListN.{length}
-use Rattle.automaton.specs.declared.Refusal.the-variants.{OutputLength}
 use Rattle.automaton.specs.declared.Refusal.{Refusal}
+use Rattle.automaton.specs.declared.Refusal.the-variants.{OutputLength}
 use Rattle.automaton.specs.Answer.{refused, Fault, none, fault}
 use Rattle.automaton.specs.Board.{Board}
 use Rattle.automaton.specs.Effect.{does}

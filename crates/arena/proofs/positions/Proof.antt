@@ -1,14 +1,18 @@
 -- `arena::positions` meets its contract: what `limits` and `named` answered decides the refusal.
 use mathlib.Core.Path.{_≡_, sym, ap, _∙_}
 use mathlib.Core.List.{List, [], _∷_}
+use Prim.Native.Nat.{_≤_}
+use native.Mathlib.Omega.{arith}
 use borrow.Author.Needs.{needs}
 use Rattle.automaton.specs.Answer.{Answer, valued, Fault, none, firstFault, unless}
 use Rattle.automaton.specs.Board.{boardOf}
 use Rattle.automaton.specs.Check.{statesFault, lettersFault, modeFault, limited}
+use Rattle.automaton.specs.Limits.{mostStates, mostLetters}
 use Rattle.automaton.proofs.Fault.{faults-passed, faults-stopped}
 use Rattle.automaton.proofs.One.{checked-none, checked-fault}
 use Rattle.automaton.proofs.Sound.{limits-line}
 use Rattle.simulation.specs.Position.{positions}
+use Rattle.simulation.proofs.Limits.{pairs-most}
 use Rattle.arena.specs.Job.{modeOf}
 use Rattle.arena.proofs.positions.Statement.{statement}
 use Rattle.arena.proofs.positions.Tie as tie
@@ -56,12 +60,24 @@ enum-told-2 c = search needs
 enum-known-named : tie.Need-enum-known-named
 enum-known-named c = search needs
 
+-- the place where the limits are known to hold, and the beginning, from the place where the mode is known
+abbrev told-sound : tie.After-named2 → tie.After-enum-told
+told-sound c = c .before .before .before
+
+abbrev begun : tie.After-named2 → tie.Start
+begun c = told-sound c .before .before .before
+
+within-limits : (c : tie.After-named2) → (begun c .args .a .states ≤ mostStates) × (begun c .args .a .letters ≤ mostLetters)
+within-limits c = let l = limits-line (begun c .args .a .states) (begun c .args .a .letters) .0 (within (told-sound c)) in (l .0 .1, l .1 .1)
+
+pairs-of-requires : tie.Need-pairs-of-requires
+pairs-of-requires c κs = within-limits (c .before) .0
+
 size-requires : tie.Need-size-requires
 size-requires c κs =
-    let told = c .before .before .before .before in
-    let s = told .before .before .before in
-    let l = limits-line (s .args .a .states) (s .args .a .letters) .0 (within told) in
-    (l .0 .1, l .1 .1)
+    let known = c .before .before in
+    let few = within-limits known in
+    (omega (arith, c .pairs-of .ensures, pairs-most (boardOf (begun known .args .a) [] []) (known .named2 .given .0 .0) (few .0)), few .1)
 
 returns-2 : tie.Need-returns-2
 returns-2 c =
@@ -71,10 +87,9 @@ returns-2 c =
 
 returns-3 : tie.Need-returns-3
 returns-3 c =
-    let known = c .before .before in
-    let told = known .before .before .before in
-    let s = told .before .before .before in
-    sym (ap (λ f. unless f (sized s)) (faults-passed (limit-lines s) (mode-line s) (within told)) ∙ simp (sym (known .before .before .named .ensures), known .named2 .given .1, c .size .ensures))
+    let known = c .before .before .before in
+    let s = begun known in
+    sym (ap (λ f. unless f (sized s)) (faults-passed (limit-lines s) (mode-line s) (within (told-sound known))) ∙ simp (sym (known .before .before .named .ensures), known .named2 .given .1, c .size .ensures, c .before .pairs-of .ensures))
 
 pub positions-spec : {M : Type 1} → statement M
 positions-spec =
@@ -87,6 +102,7 @@ positions-spec =
     named-requires
     enum-told-2
     enum-known-named
+    pairs-of-requires
     size-requires
     returns-2
     returns-3)
