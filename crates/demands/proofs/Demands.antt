@@ -221,6 +221,7 @@ restless-refused j t f c n = ⊎-elim (λ e. absurd (n (rest-told j t .0 e .1)))
 
 -- "From a settled table a pair is reported in ordinary, direct, delayed or fair mode exactly if Duplicator wins that mode's game,
 -- as the 2005 SIAM paper by Etessami, Wilke and Schuller gives it." A pair is reported by a byte 1; won is document 01's own definition.
+-- Paper.antt says the same of simulation as the paper defines it.
 module _ (j : Job) (lent out : List ℕ) (settled : settling j lent .answer .number ≡ 0) (sized : of-relation.Sized (j .board) out) where
   pub relation-told : relating j (settling j lent .left) out .answer .number ≡ 0
   relation-told = relation-accepted j (settling j lent .left) out .1 (settled-proper j lent settled, (settled-least j lent settled .at-rest, sized))

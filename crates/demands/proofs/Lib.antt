@@ -4,3 +4,4 @@ pub mod Order
 pub mod Lifted
 pub mod Demands
 pub mod Hanoi
+pub mod Paper

@@ -18,12 +18,13 @@ use Rattle.automaton.specs.Board.{Board, accepts, Formed}
 use Rattle.simulation.specs.Moves.{Moves}
 use Rattle.simulation.specs.Position.{duplicator, layers, positions, pair, number}
 use Rattle.simulation.specs.Rules.{eased, bit, ceiling, game}
+use Rattle.simulation.proofs.Moves.{move-within}
 use Rattle.simulation.proofs.Inward.{eased-lt}
 use Rattle.simulation.proofs.Position.{positions-are}
 use Rattle.halves.specs.Drawn.{Accepting, Onto}
 use Rattle.halves.specs.Half.{lowAt, replied}
 use Rattle.halves.proofs.Places.{pair-below}
-use Rattle.halves.proofs.Steps.{move-within, duplicator-kind, duplicator-step, duplicator-stepped}
+use Rattle.halves.proofs.Steps.{duplicator-kind, duplicator-step, duplicator-stepped}
 use Rattle.levels.specs.Lows.{LowOf, LowPast, Within}
 use Rattle.duplicators.specs.declared.seats.Row.{Row}
 use Rattle.duplicators.specs.Rows.{Rowed, seatBy, seenIn, Seats}

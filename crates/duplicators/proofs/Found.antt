@@ -13,9 +13,9 @@ use Rattle.automaton.specs.Board.{Board, Formed}
 use Rattle.simulation.specs.Moves.{Moves}
 use Rattle.simulation.specs.Position.{layers}
 use Rattle.simulation.specs.Rules.{ceiling}
+use Rattle.simulation.proofs.Moves.{move-within}
 use Rattle.halves.specs.Drawn.{Into, Onto}
 use Rattle.halves.specs.Half.{lowAt, replied}
-use Rattle.halves.proofs.Steps.{move-within}
 use Rattle.levels.specs.Candidates.{Leads, Found, AllSpared, AllIn}
 use Rattle.levels.specs.Levels.{Levels}
 use Rattle.levels.specs.Lows.{LowOf, Within, AllWithin}

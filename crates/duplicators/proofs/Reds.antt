@@ -12,9 +12,9 @@ use Rattle.automaton.specs.declared.Mode.{Mode}
 use Rattle.automaton.specs.Board.{Board, accepts, Formed}
 use Rattle.simulation.specs.Moves.{Moves}
 use Rattle.simulation.specs.Rules.{eased, bit}
+use Rattle.simulation.proofs.Moves.{move-within}
 use Rattle.halves.specs.Drawn.{Accepting}
 use Rattle.halves.specs.Half.{lowAt, Stirred}
-use Rattle.halves.proofs.Steps.{move-within}
 use Rattle.halves.specs.Rising.{rising}
 use Rattle.levels.specs.Lows.{Within}
 use Rattle.duplicators.specs.Fresh.{Fresh}

@@ -66,8 +66,9 @@ run-over e s r h = over e s r h
 run-past : {g : Game} {σ : ℕ → ℕ} {v w n m : ℕ} → Step g σ v w → Run g σ w m → g .T ≤ m → Run g σ v n
 run-past s r h = past s r h
 
-false : {A : Type 0} → _≡_ {A = ℕ} 0 1 → A
-false e = absurd (omega arith)
+-- two kinds that differ are not equal, of which `cc` makes 0 ≡ 1
+pub apart : {A : Type 0} → _≡_ {A = ℕ} 0 1 → A
+apart e = absurd (omega arith)
 
 step-to : {g : Game} {σ : ℕ → ℕ} {v w : ℕ} → g .kind v ≢ low → Live g v → List·Memᴰ w (g .next v) → Step g σ v w
 step-to a b m = record { edge = m; chosen = λ q. absurd (a q); live = b }
@@ -77,8 +78,8 @@ module _ (g : Game) (σ : ℕ → ℕ) (ch : Choice g σ) (f : ℕ → ℕ) (h :
   run-low : g .kind v ≡ low → (ws : List ℕ) → g .next v ≡ ws → Run g σ v (lowest (g .T) f ws)
   run-low e [] p = dead e p
   run-low e (w ∷ ws) p =
-      let m : List·Memᴰ (σ v) (g .next v) = ch v inside e (λ q. false (cc)) in
-      run-over (ap isResetting e) (record { edge = m; chosen = λ q. refl; live = λ q. false (cc) }) (h (σ v)) (omega (arith, lowest-le (g .T) f (rw p at m)))
+      let m : List·Memᴰ (σ v) (g .next v) = ch v inside e (λ q. apart (cc)) in
+      run-over (ap isResetting e) (record { edge = m; chosen = λ q. refl; live = λ q. apart (cc) }) (h (σ v)) (omega (arith, lowest-le (g .T) f (rw p at m)))
 
   run-high : (n : ℕ) → g .kind v ≢ low → Live g v → isResetting (g .kind v) ≡ 0 → n ≤ isCounting (g .kind v) + highest f (g .next v)
       → High f (g .next v) (highest f (g .next v)) → Run g σ v n
@@ -93,9 +94,9 @@ module _ (g : Game) (σ : ℕ → ℕ) (ch : Choice g σ) (f : ℕ → ℕ) (h :
   run-ask : (k : Kind) → g .kind v ≡ k → Run g σ v (ask k (g .T) f (g .next v))
   unfolding ask
   run-ask low e = run-low e (g .next v) refl
-  run-ask high e = run-high _ (λ q. false (cc)) (λ q. false (cc)) (ap isResetting e) (omega arith) (highest-in f (g .next v))
-  run-ask counting e = run-high _ (λ q. false (cc)) (λ q. false (cc)) (ap isResetting e) (omega (arith, ap isCounting e)) (highest-in f (g .next v))
-  run-ask resetting e = run-full _ (λ q. false (cc)) (λ q. false (cc)) (full-cases (g .T) (highest f (g .next v))) (highest-in f (g .next v))
+  run-ask high e = run-high _ (λ q. apart (cc)) (λ q. apart (cc)) (ap isResetting e) (omega arith) (highest-in f (g .next v))
+  run-ask counting e = run-high _ (λ q. apart (cc)) (λ q. apart (cc)) (ap isResetting e) (omega (arith, ap isCounting e)) (highest-in f (g .next v))
+  run-ask resetting e = run-full _ (λ q. apart (cc)) (λ q. apart (cc)) (full-cases (g .T) (highest f (g .next v))) (highest-in f (g .next v))
   run-ask idle e = run-here (omega arith)
   run-ask lost e = gone e
 

@@ -5,9 +5,10 @@ use Rattle.automaton.specs.declared.Mode.{Mode}
 use Rattle.automaton.specs.Board.{Board, accepts, Formed}
 use Rattle.simulation.specs.Position.{pairs, positions}
 use Rattle.simulation.specs.Rules.{eased, game}
+use Rattle.simulation.proofs.Moves.{move-within}
 use Rattle.simulation.proofs.Inward.{eased-lt}
 use Rattle.halves.proofs.Places.{pair-below, each-spoiler, each-duplicator}
-use Rattle.halves.proofs.Steps.{move-within, spoiler-stepped, duplicator-stepped}
+use Rattle.halves.proofs.Steps.{spoiler-stepped, duplicator-stepped}
 
 module _ (B : Board) (m : Mode) (F : Formed B) where
   pub spoilers-apart : Apart (game B m) 0 (pairs B m)

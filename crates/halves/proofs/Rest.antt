@@ -15,12 +15,13 @@ use Rattle.automaton.specs.Board.{Board, accepts, Formed}
 use Rattle.simulation.specs.Moves.{Moves}
 use Rattle.simulation.specs.Position.{duplicator, pairs, positions, pair, number}
 use Rattle.simulation.specs.Rules.{pended, eased, turn, ceiling, game}
+use Rattle.simulation.proofs.Moves.{move-within}
 use Rattle.simulation.proofs.Inward.{pended-lt, eased-lt}
 use Rattle.halves.specs.Half.{ruled, challenged, replied, AllCalm, lowAt, Stirred, AllStirred}
 use Rattle.halves.specs.Rising.{Rising, Noted, AllNoted, Marked, AllMarked}
 use Rattle.halves.proofs.Apart.{spoilers-apart}
 use Rattle.halves.proofs.Places.{pair-below, duplicator-within}
-use Rattle.halves.proofs.Steps.{move-within, turn-not-low, spoiler-kind, spoiler-step, duplicator-asks, duplicator-stepped}
+use Rattle.halves.proofs.Steps.{turn-not-low, spoiler-kind, spoiler-step, duplicator-asks, duplicator-stepped}
 
 module _ (B : Board) (m : Mode) (F : Formed B) where
   -- ---- Spoiler's positions after a whole sweep

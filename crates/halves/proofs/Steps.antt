@@ -16,10 +16,6 @@ use Rattle.simulation.proofs.Position.{position-number}
 use Rattle.simulation.proofs.Turns.{isLow, turn-low}
 use Rattle.halves.specs.Half.{challenged, replied}
 
--- a move's numbers are inside the board
-pub move-within : (B : Board) → Formed B → (q a r : ℕ) → Moves B q a r → (q < B .n) × (a < B .k) × (r < B .n)
-move-within B F q a r (i, l, x, y, z) = let w = F .inside i l in (rw (← x) (w .0), rw (← y) (w .1), rw (← z) (w .2))
-
 -- Spoiler's positions are not of Duplicator's kind
 pub turn-not-low : (m : Mode) (b : ℕ) (x y : Bool) → turn m b x y ≢ low
 turn-not-low m b x y e = omega (arith, turn-low m b x y, ap isLow e)

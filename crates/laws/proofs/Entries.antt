@@ -31,7 +31,7 @@ pub record Entries (B : Board) (m : Mode) (t : List ℕ) (b q r k : ℕ) : Type 
 
 module _ (B : Board) (F : Formed B) (m : Mode) (t : List ℕ) (rest : AtRest (game B m) t) where
   -- Blue's answer is the reply of the table; the walk of that one round tells the rank.
-  entries-answer : {b q r k : ℕ} → Entries B m t b q r k → (a q′ : ℕ) → List·Memᴰ q′ (targets B q a) → Answer B m (Entries B m t) b q r k a q′
+  pub entries-answer : {b q r k : ℕ} → Entries B m t b q r k → (a q′ : ℕ) → List·Memᴰ q′ (targets B q a) → Answer B m (Entries B m t) b q r k a q′
   entries-answer {b} {q} {r} {k} e a q′ i =
       let σ = replies B m t in
       let p = spoiler b q r in
@@ -57,6 +57,11 @@ module _ (B : Board) (F : Formed B) (m : Mode) (t : List ℕ) (rest : AtRest (ga
         };
         fall = λ z. omega (arith, e .is, falls (game B m) (inward B F m) t rest (byNumber B m σ) (replies-least B F m t) start below d (omega arith));
       }
+
+  pub entries-reply : {b q r k : ℕ} (e : Entries B m t b q r k) (a q′ : ℕ) (i : List·Memᴰ q′ (targets B q a))
+      → entries-answer e a q′ i .to ≡ replies B m t (pended m (accepts B q′) b) q′ r a
+  unfolding entries-answer
+  entries-reply e a q′ i = refl
 
   -- the replies win from here, so no lost position is held
   entries-kept : {b q r k : ℕ} → Entries B m t b q r k → kindOf B m (spoiler b q r) ≢ lost

@@ -16,6 +16,7 @@ use Rattle.simulation.specs.Moves.{Moves}
 use Rattle.simulation.specs.Quotient.{equal, chief, classOf, classCount, classMarks, classMoves, quotientOf, Image}
 use Rattle.simulation.specs.Won.{WonPair}
 use Rattle.simulation.proofs.Listed.{listed-length}
+use Rattle.simulation.proofs.Moves.{move-within}
 use Rattle.simulation.proofs.Relation.{settled-least}
 use Rattle.laws.proofs.Equal.{equal-equivalence, class-won}
 use Rattle.laws.proofs.Images.{quotient-moves, moves-long}
@@ -97,19 +98,15 @@ module _ (j : Job) (x : Buffers) (accepted : quotienting j x .answer .number ≡
   pub merged-formed : Formed (written (B .k) (quotienting j x))
   merged-formed = subst Formed (sym read-back) (quotient-formed B m t equals formed)
 
-  -- a move of the board is between states
-  inside : (q a r : ℕ) → Moves B q a r → (q < B .n) × (r < B .n)
-  inside q a r (i, l, e, d, g) = let z = formed .inside i l in (omega (arith, z .0), omega (arith, z .2))
-
   pub merged-moves : (c a d : ℕ) → Moves (written (B .k) (quotienting j x)) c a d
       ↔ ((q : ℕ) × (r : ℕ) × Moves B q a r × (class q ≡ c) × (class r ≡ d))
   merged-moves c a d = Iff·trans (λ k. quotient-moves B m t formed c a d .0 (subst (λ (Q : Board). Moves Q c a d) read-back k), λ k. subst (λ (Q : Board). Moves Q c a d) (sym read-back) (quotient-moves B m t formed c a d .1 k)) (there, back)
     where
       there : Image B m t c a d → (q : ℕ) × (r : ℕ) × Moves B q a r × (class q ≡ c) × (class r ≡ d)
-      there (q, r, k, e, f) = let z = inside q a r k in (q, r, k, class-is q (z .0) ∙ e, class-is r (z .1) ∙ f)
+      there (q, r, k, e, f) = let (h, l, i) = move-within B formed q a r k in (q, r, k, class-is q h ∙ e, class-is r i ∙ f)
 
       back : (q : ℕ) × (r : ℕ) × Moves B q a r × (class q ≡ c) × (class r ≡ d) → Image B m t c a d
-      back (q, r, k, e, f) = let z = inside q a r k in (q, r, k, sym (class-is q (z .0)) ∙ e, sym (class-is r (z .1)) ∙ f)
+      back (q, r, k, e, f) = let (h, l, i) = move-within B formed q a r k in (q, r, k, sym (class-is q h) ∙ e, sym (class-is r i) ∙ f)
 
   pub merged-marks : (c : ℕ) → c < getD (quotienting j x .answer .values) 0 0
       → (accepts (written (B .k) (quotienting j x)) c ≡ true) ↔ ((q : ℕ) × (q < B .n) × (class q ≡ c) × (accepts B q ≡ true))

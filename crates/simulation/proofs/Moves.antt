@@ -109,8 +109,12 @@ arrows-moves B q e = (there, back)
 
 -- ---- inside the board
 
+-- a move's numbers are the board's
+pub move-within : (B : Board) → Formed B → (q a r : ℕ) → Moves B q a r → (q < B .n) × (a < B .k) × (r < B .n)
+move-within B F q a r (i, l, x, y, z) = let w = F .inside i l in (rw (← x) (w .0), rw (← y) (w .1), rw (← z) (w .2))
+
 pub targets-lt : (B : Board) → Formed B → (q a : ℕ) {r : ℕ} → List·Memᴰ r (targets B q a) → r < B .n
-targets-lt B F q a {r} m = let (i, l, e, d, g) = targets-moves B q a r .0 m in rw (← g) (F .inside i l .2)
+targets-lt B F q a {r} m = move-within B F q a r (targets-moves B q a r .0 m) .2
 
 pub arrows-lt : (B : Board) → Formed B → (q : ℕ) {e : Arrow} → List·Memᴰ e (arrows B q) → (e .by < B .k) × (e .goal < B .n)
-arrows-lt B F q {e} m = let (i, l, d, a, r) = arrows-moves B q e .0 m in (rw (← a) (F .inside i l .1), rw (← r) (F .inside i l .2))
+arrows-lt B F q {e} m = let (h, a, r) = move-within B F q (e .by) (e .goal) (arrows-moves B q e .0 m) in (a, r)

@@ -14,11 +14,12 @@ use Rattle.automaton.specs.Board.{Board, accepts, Formed}
 use Rattle.simulation.specs.Moves.{Moves}
 use Rattle.simulation.specs.Position.{duplicator, layers, pairs, positions, number}
 use Rattle.simulation.specs.Rules.{eased, ceiling, game}
+use Rattle.simulation.proofs.Moves.{move-within}
 use Rattle.simulation.proofs.Inward.{eased-lt}
 use Rattle.halves.specs.Half.{replied, lowAt, Stirred, AllStirred}
 use Rattle.halves.specs.Rising.{Rising, Noted, AllNoted}
 use Rattle.halves.proofs.Places.{pair-below}
-use Rattle.halves.proofs.Steps.{move-within, duplicator-asks, duplicator-step}
+use Rattle.halves.proofs.Steps.{duplicator-asks, duplicator-step}
 use Rattle.duplicators.specs.Growing.{Growing, Answered}
 use Rattle.duplicators.proofs.Part.{at-out, asked-same}
 

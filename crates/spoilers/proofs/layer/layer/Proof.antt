@@ -3,9 +3,9 @@ use native.Mathlib.Omega.{arith}
 use borrow.Author.Needs.{needs}
 use Rattle.words.specs.Word.{Pop}
 use Rattle.automaton.specs.Board.{Board, accepts}
+use Rattle.simulation.proofs.Moves.{move-within}
 use Rattle.arena.specs.Arena.{boardIn}
 use Rattle.halves.specs.Rising.{Rising, rising}
-use Rattle.halves.proofs.Steps.{move-within}
 use Rattle.spoilers.specs.Work.{Working}
 use Rattle.spoilers.specs.Front.{Columned}
 use Rattle.spoilers.proofs.Parts.{pushed-then, working-kept, raising-most}

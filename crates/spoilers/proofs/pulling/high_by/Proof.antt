@@ -9,9 +9,9 @@ use Rattle.words.specs.Word.{Pop}
 use Rattle.automaton.specs.Board.{Board}
 use Rattle.simulation.specs.Moves.{Moves}
 use Rattle.simulation.specs.Position.{positions}
+use Rattle.simulation.proofs.Moves.{move-within}
 use Rattle.arena.specs.Arena.{boardIn}
 use Rattle.halves.specs.Half.{challenged}
-use Rattle.halves.proofs.Steps.{move-within}
 use Rattle.spoilers.proofs.Bounds.{challenged-within, challenged-small, into-small}
 use Rattle.spoilers.proofs.Pulls.{Climbing, climb-start, climb-more, climb-end}
 use Rattle.spoilers.proofs.Through.{popped}

@@ -1,0 +1,14 @@
+pub mod Finite
+pub mod Drawn
+pub mod Ends
+pub mod Memory
+pub mod Standing
+pub mod Runs
+pub mod Pending
+pub mod Unrelieved
+pub mod Forgotten
+pub mod Falling
+pub mod Following
+pub mod Winning
+pub mod Agreed
+pub mod Readings
