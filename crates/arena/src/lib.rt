@@ -1,5 +1,7 @@
 // The numbers of one automaton's game in one mode: P, T and the arena, in which the calls on a table work.
 // Refusals 1 to 9, which those calls share, are decided here.
+#![tactic(auto)]
+
 ghost use Rattle.std.specs.Prelude.{◌≡◌, true, [], ◌+◌, ◌*◌, ◌≤◌, eqb, length, get_or};
 ghost use Rattle.games.specs.Play.{count};
 ghost use Rattle.automaton.specs.Board.{board_of};
@@ -14,7 +16,7 @@ ghost use Rattle.arena.specs.Refusals.{sizing, topping};
 use automaton::{Automaton, Checked, Mode, Named, Refusal};
 
 // What the work at every position needs: the automaton's numbers, the number of Spoiler's positions, and T.
-#[derive(Drop)]
+#[derive(Clone, Copy)]
 pub struct Arena {
     pub states: usize,
     pub letters: usize,
@@ -24,14 +26,14 @@ pub struct Arena {
 }
 
 // The arena, or why there is none.
-#[derive(Drop)]
+#[derive(Clone, Copy)]
 pub enum Opened {
     Open(Arena),
     Shut(Refusal),
 }
 
 // What `positions` and `ceiling` answer.
-#[derive(Drop)]
+#[derive(Clone, Copy)]
 pub enum Counted {
     Number(usize),
     Refused(Refusal),

@@ -13,7 +13,7 @@ use arena::Arena;
 use automaton::Mode;
 
 // How Spoiler's position asks.
-#[derive(Drop)]
+#[derive(Clone, Copy)]
 pub enum Turn {
     High,
     Counting,

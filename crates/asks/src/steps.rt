@@ -10,7 +10,7 @@ use automaton::wide;
 
 // The moves from lo up to hi. One to the state r by the letter a leads to the position base + r · stride + a · step,
 // where the base is `marked` if r accepts and `plain` if not.
-#[derive(Drop)]
+#[derive(Clone, Copy)]
 pub struct Steps {
     pub lo: usize,
     pub hi: usize,

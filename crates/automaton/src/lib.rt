@@ -1,5 +1,7 @@
 // An automaton as its callers lend it, the modes of its games, and `check`, with which every other call begins.
 // The marks and the moves are lent as bytes beside the record: one mark a state, three bytes (from, letter, to) a move.
+#![tactic(auto)]
+
 ghost use Rattle.std.specs.Prelude.{◌≡◌, ◌+◌, ◌*◌, ◌/◌, ◌<◌, length};
 ghost use Rattle.automaton.specs.Answer.{number_of, place_of};
 ghost use Rattle.automaton.specs.Board.{above, board_of, outside, unsorted};
@@ -8,7 +10,7 @@ ghost use Rattle.automaton.specs.First.{first};
 ghost use Rattle.automaton.specs.Limits.{name_of};
 
 // States 0 to states-1, letters 0 to letters-1, and the start state.
-#[derive(Drop)]
+#[derive(Clone, Copy)]
 pub struct Automaton {
     pub states: usize,
     pub letters: usize,
@@ -22,7 +24,7 @@ impl Automaton {
 }
 
 // The four games.
-#[derive(Drop)]
+#[derive(Clone, Copy)]
 pub enum Mode {
     Ordinary,
     Direct,
@@ -31,7 +33,7 @@ pub enum Mode {
 }
 
 // The mode of a number, or that there is none.
-#[derive(Drop)]
+#[derive(Clone, Copy)]
 pub enum Named {
     Known(Mode),
     Unknown,
@@ -61,7 +63,7 @@ impl Mode {
 }
 
 // Why a call was refused, with the place of the first thing at fault where there is one to name.
-#[derive(Drop)]
+#[derive(Clone, Copy)]
 pub enum Refusal {
     States,
     Letters,
@@ -150,7 +152,7 @@ impl Refusal {
 }
 
 // What `limits` and `check` answer.
-#[derive(Drop)]
+#[derive(Clone, Copy)]
 pub enum Checked {
     Sound,
     Refused(Refusal),

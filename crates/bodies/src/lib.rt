@@ -1,5 +1,7 @@
 // The body of a Hanoi file: `read` lists its states on a sheet and marks the triples that its edges lead along.
 // A token at a time: `step` tells what each leads to, `read` goes from one to the next.
+#![tactic(auto)]
+
 ghost use Rattle.std.specs.Prelude.{◌≡◌, ◌^◌, ◌≤◌, ◌<◌, length, replicate};
 ghost use Rattle.tokens.specs.Tokens.{token_from};
 ghost use Rattle.triples.specs.Triples.{most_triples};
@@ -14,7 +16,7 @@ use labels::Lettered;
 use tokens::{Sort, Token};
 
 // What is due next.
-#[derive(Drop)]
+#[derive(Clone, Copy)]
 pub enum Due {
     Block,
     State,
@@ -27,7 +29,7 @@ pub enum Due {
 }
 
 // What a token leads to.
-#[derive(Drop)]
+#[derive(Clone, Copy)]
 pub enum Next {
     To(Due),
     List(usize),
@@ -38,14 +40,14 @@ pub enum Next {
 }
 
 // What an edge comes to: the place behind it.
-#[derive(Drop)]
+#[derive(Clone, Copy)]
 pub enum Edged {
     To(usize),
     Refused(Refusal),
 }
 
 // What `read` answers.
-#[derive(Drop)]
+#[derive(Clone, Copy)]
 pub enum Bodied {
     Held,
     Refused(Refusal),

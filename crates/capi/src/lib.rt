@@ -1,5 +1,7 @@
 // The calls for C and C++, as include/lucorphane.h declares them. Each exported function makes one call and gives its answer
 // in numbers; nothing is decided here.
+#![tactic(auto)]
+
 mod answers; // answers.rt: the answer of each call as numbers
 
 ghost use Rattle.std.specs.Prelude.{◌≡◌};
@@ -15,7 +17,7 @@ use automaton::Automaton;
 
 // What every exported function returns, `lucorphane_answer` in the header. Number 0: accepted.
 #[repr(C)]
-#[derive(Drop)]
+#[derive(Clone, Copy)]
 pub struct Answer {
     pub number: u64,
     pub place: u64,

@@ -14,7 +14,7 @@ pub const ENTRIES: usize = 2 * draw::STATES * draw::STATES * (1 + draw::LETTERS)
 pub const PAIRS: usize = draw::STATES * draw::STATES;
 
 // How a comparison ended. A refusal of any of the calls is a difference too, with its number.
-#[derive(Drop)]
+#[derive(Clone, Copy)]
 pub enum Outcome {
     Same,
     Differs,

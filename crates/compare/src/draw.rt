@@ -55,7 +55,7 @@ pub fn scatter(seed: u64, share: u64, out: &mut [u8]) -> u64 {
 }
 
 // A move, or the place of one among the triples.
-#[derive(Drop)]
+#[derive(Clone, Copy)]
 pub struct Triple {
     pub from: usize,
     pub letter: usize,

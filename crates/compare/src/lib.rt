@@ -1,4 +1,6 @@
 // The relation of the calls held against that of `second`, on small automata, for the programs `trials` and `rests`.
+#![tactic(auto)]
+
 mod agree; // agree.rt: one automaton, reckoned both ways
 mod draw; // draw.rt: marks and moves, by number or at random
 mod every; // every.rt: all automata of a size, and many at random

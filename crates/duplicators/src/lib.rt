@@ -1,4 +1,6 @@
 // Duplicator's half of a sweep, which looks only at positions that have a step to an entry that has risen.
+#![tactic(auto)]
+
 ghost use Rattle.std.specs.Prelude.{length};
 ghost use Rattle.games.specs.Half.{Halved};
 ghost use Rattle.arena.specs.Arena.{board_in, game_in, Ready};

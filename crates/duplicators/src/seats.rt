@@ -8,7 +8,7 @@ ghost use Rattle.duplicators.specs.Rows.{AtMost, Gathered, Rowed, Seats, seen_in
 use arena::Arena;
 
 // The positions (b,q,·,·): where Spoiler's entries (b,q,·) begin, and where those begin that a step to an accepting state leads to.
-#[derive(Drop)]
+#[derive(Clone, Copy)]
 pub struct Row {
     pub b: usize,
     pub q: usize,

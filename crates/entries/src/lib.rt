@@ -1,5 +1,7 @@
 // The entries of a lent table whose arena is known: filled, searched and lifted.
 // They stand by themselves: the calls of `table` decide what to refuse, and then come here.
+#![tactic(auto)]
+
 ghost use Rattle.std.specs.Prelude.{◌≡◌, ◌≤◌, ◌<◌, length, replicate};
 ghost use Rattle.automaton.specs.First.{first};
 ghost use Rattle.games.specs.Lift.{lift, rise};

@@ -1,5 +1,7 @@
 // The fields of a text: numbers in decimal, read from bytes, and numbers and words put into a lent buffer.
 // Putting ends where the buffer does: nothing is written past it.
+#![tactic(auto)]
+
 ghost use Rattle.std.specs.Prelude.{◌≡◌, [], ◌∷◌};
 ghost use Rattle.fields.specs.Bytes.{laid, stop};
 ghost use Rattle.fields.specs.Numbers.{number_of, shown};
@@ -10,7 +12,7 @@ pub const TAB: u8 = 9;
 pub const NEWLINE: u8 = 10;
 
 // What a field says: a number, or none.
-#[derive(Drop)]
+#[derive(Clone, Copy)]
 pub enum Number {
     Is(usize),
     Not,

@@ -1,4 +1,6 @@
 // The accepting states and the moves as sets of states, each in a word, as the two halves of a sweep use them.
+#![tactic(auto)]
+
 ghost use Rattle.std.specs.Prelude.{◌*◌, ◌≤◌, ◌<◌, length};
 ghost use Rattle.automaton.specs.Board.{Formed};
 ghost use Rattle.arena.specs.Arena.{board_in};

@@ -1,5 +1,7 @@
 // Hanoi files: `read` gives the automaton of one, its marks and its moves, or says why it cannot.
 // The header and the body are each read in one pass; nothing is written before the last refusal is ruled out.
+#![tactic(auto)]
+
 ghost use Rattle.std.specs.Prelude.{◌≡◌, ◌^◌, ◌≤◌, ◌<◌, length, eqb};
 ghost use Rattle.automaton.specs.Answer.{accepted, first_fault, unless};
 ghost use Rattle.automaton.specs.Check.{answer_of};
@@ -22,14 +24,14 @@ use bodies::Bodied;
 use headers::{Headed, Header};
 
 // What `read` answers: the automaton and the number of its moves.
-#[derive(Drop)]
+#[derive(Clone, Copy)]
 pub enum Reading {
     Held(Automaton, usize),
     Refused(Refusal),
 }
 
 // The bytes, states and letters that a caller has room for.
-#[derive(Drop)]
+#[derive(Clone, Copy)]
 pub struct Limits {
     pub bytes: usize,
     pub states: usize,

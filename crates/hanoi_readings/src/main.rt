@@ -1,5 +1,7 @@
 // Reads Hanoi files and prints what the calls answered; the file `stdout` has what they should, as another reader gave it that was
 // written from the rules alone.
+#![tactic(auto)]
+
 mod body_faults; // body_faults.rt: bodies that are refused
 mod cuts; // cuts.rt: files cut short
 mod head_faults; // head_faults.rt: headers that are refused

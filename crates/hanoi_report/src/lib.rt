@@ -1,4 +1,6 @@
 // From the bytes of a Hanoi file to the bytes that its relation program prints: `report`, in mode 2.
+#![tactic(auto)]
+
 ghost use Rattle.report.specs.Answers.{of_reported};
 ghost use Rattle.hanoi_report.specs.Report.{Reports};
 

@@ -1,5 +1,7 @@
 // The header of a Hanoi file: `read` gives what it says and the place behind `--BODY--`.
 // A token at a time: `step` tells what each leads to, `read` goes from one to the next.
+#![tactic(auto)]
+
 ghost use Rattle.std.specs.Prelude.{◌≡◌};
 ghost use Rattle.tokens.specs.Tokens.{token_from};
 ghost use Rattle.headers.specs.Stands.{exactly as exactlyOf, item as item_of, names_after, once as onceOf, only as onlyOf, step as step_of, whole as whole_of};
@@ -12,7 +14,7 @@ use automaton::Refusal;
 use tokens::{Sort, Token};
 
 // What a header says, and which of the four that may stand once have stood.
-#[derive(Drop)]
+#[derive(Clone, Copy)]
 pub struct Header {
     pub states: usize,
     pub start: usize,
@@ -24,7 +26,7 @@ pub struct Header {
 }
 
 // What is wanted next.
-#[derive(Drop)]
+#[derive(Clone, Copy)]
 pub enum Wanted {
     Format,
     Version,
@@ -42,7 +44,7 @@ pub enum Wanted {
 }
 
 // What a token leads to.
-#[derive(Drop)]
+#[derive(Clone, Copy)]
 pub enum Next {
     To(Wanted, Header),
     Body(Header),
@@ -50,7 +52,7 @@ pub enum Next {
 }
 
 // What `read` answers: the header and the place behind it.
-#[derive(Drop)]
+#[derive(Clone, Copy)]
 pub enum Headed {
     Held(Header, usize),
     Refused(Refusal),

@@ -1,5 +1,7 @@
 // The labels of a Hanoi file: `letters` gives the set of letters that make a label true.
 // A label is evaluated for all letters at once: bit a of a mask tells letter a.
+#![tactic(auto)]
+
 ghost use Rattle.std.specs.Prelude.{◌≡◌, ◌≢◌, length, ◌≤◌, ◌<◌};
 ghost use Rattle.tokens.specs.Tokens.{token_from};
 ghost use Rattle.tokens.specs.Sorts as sort;
@@ -11,7 +13,7 @@ use automaton::Refusal;
 use tokens::{Sort, Token};
 
 // The letters of a label and the place behind it, or why none stands there.
-#[derive(Drop)]
+#[derive(Clone, Copy)]
 pub enum Lettered {
     Letters(u16, usize),
     Refused(Refusal),
@@ -84,7 +86,7 @@ fn unit(text: &[u8], from: usize, deeper: usize, props: usize) -> Lettered
 }
 
 // Whether a row of `!` is odd, the place behind it, and the token there.
-#[derive(Drop)]
+#[derive(Clone, Copy)]
 pub struct Row {
     pub odd: bool,
     pub at: usize,

@@ -5,7 +5,7 @@ ghost use Rattle.lines.specs.Lines.{word_of, one, triple as triple-of, three, li
 use fields::Number;
 
 // The word that a line begins with.
-#[derive(Drop)]
+#[derive(Clone, Copy)]
 pub enum Word {
     Automaton,
     Mode,
@@ -15,14 +15,14 @@ pub enum Word {
 }
 
 // Three numbers, if the three fields are numbers.
-#[derive(Drop)]
+#[derive(Clone, Copy)]
 pub enum Three {
     Are(usize, usize, usize),
     Not,
 }
 
 // What a line says; `Wrong` has no form that a line may have.
-#[derive(Drop)]
+#[derive(Clone, Copy)]
 pub enum Line {
     Automaton(usize, usize, usize),
     Mode(usize),

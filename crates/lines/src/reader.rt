@@ -6,7 +6,7 @@ use super::line;
 use super::line::Line;
 
 // A line, and the place past it.
-#[derive(Drop)]
+#[derive(Clone, Copy)]
 pub struct Read {
     pub line: Line,
     pub past: usize,
@@ -37,7 +37,7 @@ fn read_at(text: &[u8], at: usize) -> Read
 }
 
 // The text and a place in it.
-#[derive(Drop)]
+#[derive(Clone, Copy)]
 pub struct Reader<'a> {
     pub text: &'a [u8],
     pub at: usize,

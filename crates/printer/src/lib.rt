@@ -1,4 +1,6 @@
 // What the programs print, put into a buffer: the line of a refusal, and the relation of an automaton within their limits.
+#![tactic(auto)]
+
 mod lines; // lines.rt: one line put into a buffer
 mod pairs; // pairs.rt: the lines of the related pairs
 

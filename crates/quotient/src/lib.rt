@@ -1,5 +1,7 @@
 // The quotient of an automaton: states that are related to each other both ways become one class.
 // The call first decides whether to refuse, and writes nothing if it does.
+#![tactic(auto)]
+
 ghost use Rattle.std.specs.Prelude.{◌≡◌, ◌<◌, length};
 ghost use Rattle.arena.specs.Arena.{board_in, Ready};
 ghost use Rattle.arena.specs.Job.{job_of};
@@ -11,7 +13,7 @@ use arena::{Arena, Opened};
 use automaton::{Automaton, Mode, Refusal, wide};
 
 // What `quotient` answers: how many classes and moves there are, and the start's class.
-#[derive(Drop)]
+#[derive(Clone, Copy)]
 pub enum Merged {
     Counts(usize, usize, usize),
     Refused(Refusal),

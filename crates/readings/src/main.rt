@@ -1,4 +1,6 @@
 // Reads short texts and prints what the calls answered; the file `stdout` has what they should, worked out from document 01.
+#![tactic(auto)]
+
 mod accepted; // accepted.rt: texts that are read
 mod numbers; // numbers.rt: texts of right form that are refused, by the number
 mod printed; // printed.rt: writing to standard output

@@ -1,4 +1,6 @@
 // The relation program: reads a text from standard input, and prints its relation, or why it is refused.
+#![tactic(auto)]
+
 use libc::{STDIN_FILENO, STDOUT_FILENO};
 use report::Reported;
 

@@ -1,4 +1,6 @@
 // The second relation program: reads a Hanoi file from standard input, and prints its delayed relation, or why it is refused.
+#![tactic(auto)]
+
 use libc::{STDIN_FILENO, STDOUT_FILENO};
 use report::Reported;
 

@@ -1,5 +1,7 @@
 // The calls that read a table at rest: `relation` and `reply`.
 // Each call first decides whether to refuse, and writes nothing if it does.
+#![tactic(auto)]
+
 ghost use Rattle.std.specs.Prelude.{◌≡◌, ◌<◌, length};
 ghost use Rattle.simulation.specs.Answers.{reply_at};
 ghost use Rattle.arena.specs.Arena.{board_in, Ready};
@@ -13,14 +15,14 @@ use table::Rested;
 use verdicts::best::Best;
 
 // What `relation` answers: how many pairs are related.
-#[derive(Drop)]
+#[derive(Clone, Copy)]
 pub enum Related {
     Ones(usize),
     Refused(Refusal),
 }
 
 // What `reply` answers: the state for Blue.
-#[derive(Drop)]
+#[derive(Clone, Copy)]
 pub enum Replied {
     Blue(usize),
     Refused(Refusal),

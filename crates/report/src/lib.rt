@@ -1,4 +1,6 @@
 // From the bytes of a text to the bytes that the relation program prints: `report`.
+#![tactic(auto)]
+
 ghost use Rattle.std.specs.Prelude.{◌≡◌};
 ghost use Rattle.report.specs.Answers.{of_reported};
 ghost use Rattle.report.specs.Calls.{reporting};
@@ -7,7 +9,7 @@ use automaton::Refusal;
 use text::Reading;
 
 // What `report` answers: how many bytes it wrote.
-#[derive(Drop)]
+#[derive(Clone, Copy)]
 pub enum Reported {
     Bytes(usize),
     Refused(Refusal),

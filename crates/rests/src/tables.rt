@@ -19,7 +19,7 @@ const REFUSED: u64 = 65;
 
 // What was seen of the tables: how many were at rest, how many of them were not the least, how many ones their relations had that
 // `second` has not, from how many positions play was followed, and how many of these broke their promise.
-#[derive(Drop)]
+#[derive(Clone, Copy)]
 struct Seen {
     tables: u64,
     unlike: u64,

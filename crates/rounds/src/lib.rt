@@ -1,5 +1,7 @@
 // The settle by half-rounds: sweep after sweep, each made from its two halves, until one raises nothing.
 // The table and the number of raises are those of the defined sweeps.
+#![tactic(auto)]
+
 ghost use Rattle.std.specs.Prelude.{◌≡◌};
 ghost use Rattle.games.specs.Lift.{cleared};
 ghost use Rattle.games.specs.Settle.{settle};

@@ -1,6 +1,8 @@
 // A second reckoner of the four games, for comparison only. It knows no table and no measure: it works on sets of Spoiler's
 // positions, by fixed points one inside the other, and shares no code with the calls it is compared with but `check`, the names of the
 // modes and `wide` of `automaton`.
+#![tactic(auto)]
+
 mod fixed; // fixed.rt: the winning set, by nested fixed points
 mod round; // round.rt: one round of play on sets, Red's move and Blue's answer
 mod rules; // rules.rt: the rules of the modes and the moves, as sets of states
@@ -12,7 +14,7 @@ use self::rules::Rules;
 use automaton::{Automaton, Checked, Mode, Named, Refusal, wide};
 
 // What `relation` answers: how many pairs are won.
-#[derive(Drop)]
+#[derive(Clone, Copy)]
 pub enum Reckoned {
     Ones(usize),
     Refused(Refusal),

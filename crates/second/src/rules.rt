@@ -15,7 +15,7 @@ pub const KEYS: usize = Automaton::LETTERS * Automaton::STATES;
 pub const ALL: u64 = 18446744073709551615;
 
 // An automaton's numbers, the mode, and the accepting states.
-#[derive(Drop)]
+#[derive(Clone, Copy)]
 pub struct Rules {
     pub states: usize,
     pub letters: usize,
@@ -25,7 +25,7 @@ pub struct Rules {
 
 // Blue's states in a row, by what they mean where Duplicator has to win: a good one seen for ever wins, else a bad one
 // seen for ever loses. A state in none of the three is lost.
-#[derive(Drop)]
+#[derive(Clone, Copy)]
 pub struct Kinds {
     pub good: u64,
     pub bad: u64,

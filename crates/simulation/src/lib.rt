@@ -1,1 +1,2 @@
 // No code: document 01's four simulation games. Definitions in specs/, theorems in proofs/.
+#![tactic(auto)]

@@ -10,7 +10,7 @@ use automaton::Mode;
 // Column (b, ·, r): the bits b and `owing`, which b becomes when Red moves to an accepting state; the state r of Blue; the states that do
 // not accept; where the entries begin that Red's moves lead to, `plain` for moves to such states and `marked` for moves to accepting ones;
 // and the column's rule.
-#[derive(Drop)]
+#[derive(Clone, Copy)]
 pub struct Column {
     pub bit: usize,
     pub owing: usize,
@@ -23,7 +23,7 @@ pub struct Column {
 }
 
 // An entry below `from` raises nothing. Another raises (b, q, r) to itself, and to one more where q is in `bump`.
-#[derive(Drop)]
+#[derive(Clone, Copy)]
 pub struct Rule {
     pub from: u32,
     pub bump: u64,

@@ -12,7 +12,7 @@ use arena::Arena;
 use automaton::Mode;
 
 // What the positions (b, q, r) of a column ask for with High 0: `value` where q is hit, and 0 elsewhere.
-#[derive(Drop)]
+#[derive(Clone, Copy)]
 struct Floor {
     hit: u64,
     value: u32,

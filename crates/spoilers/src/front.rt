@@ -3,7 +3,7 @@ ghost use Rattle.std.specs.Prelude.{◌≡◌, suc, max, min};
 ghost use Rattle.spoilers.specs.Front.{Cover, Fresh};
 
 // The greatest entry pushed so far, the states that have had it, and how many entries rose for the first time in this half.
-#[derive(Drop)]
+#[derive(Clone, Copy)]
 pub struct Front {
     pub cur: u32,
     pub done: u64,

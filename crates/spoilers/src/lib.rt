@@ -1,4 +1,6 @@
 // Spoiler's half of a sweep: what Duplicator's entries rose to is pushed to the entries that it may raise, or every entry is raised to what it asks for.
+#![tactic(auto)]
+
 ghost use Rattle.std.specs.Prelude.{◌≡◌, ℕ, ◌<◌, length};
 ghost use Rattle.games.specs.Game.{at};
 ghost use Rattle.games.specs.Half.{Halved, rose};

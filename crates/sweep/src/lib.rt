@@ -1,5 +1,7 @@
 // One sweep, made from its two halves: Spoiler's, then Duplicator's, and what is at rest is left out.
 // It stands by itself: `rounds` goes from sweep to sweep by what a sweep promises, whichever way it is made.
+#![tactic(auto)]
+
 mod ways; // ways.rt: the ways through Spoiler's half
 mod wipe; // wipe.rt: taking marks away
 

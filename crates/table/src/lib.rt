@@ -1,5 +1,7 @@
 // The calls on a lent table: `clear`, `lift`, `rest` and `settle`. `arena::positions` and `arena::ceiling` give its length and T.
 // Each call first decides whether to refuse, and writes nothing if it does.
+#![tactic(auto)]
+
 ghost use Rattle.std.specs.Prelude.{◌≡◌};
 ghost use Rattle.games.specs.Settle.{settle};
 ghost use Rattle.arena.specs.Arena.{game_in, Ready};
@@ -11,14 +13,14 @@ use arena::{Arena, Opened};
 use automaton::{Automaton, Refusal};
 
 // What `clear` answers.
-#[derive(Drop)]
+#[derive(Clone, Copy)]
 pub enum Cleared {
     Done,
     Refused(Refusal),
 }
 
 // What `lift` answers: whether the entry rose.
-#[derive(Drop)]
+#[derive(Clone, Copy)]
 pub enum Lifted {
     Rose,
     Stayed,
@@ -26,7 +28,7 @@ pub enum Lifted {
 }
 
 // What `rest` answers: that the table is at rest, or the lowest position that is not.
-#[derive(Drop)]
+#[derive(Clone, Copy)]
 pub enum Rested {
     AtRest,
     Restless(usize),
@@ -34,7 +36,7 @@ pub enum Rested {
 }
 
 // What `settle` answers: the number of raises.
-#[derive(Drop)]
+#[derive(Clone, Copy)]
 pub enum Settled {
     Raised(usize),
     Refused(Refusal),

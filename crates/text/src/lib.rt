@@ -1,4 +1,6 @@
 // The text of an automaton: `read` gives the automaton, its mode, its marks and its moves, or says why it cannot.
+#![tactic(auto)]
+
 mod fill; // fill.rt: the marks and the moves, put into lent buffers
 mod survey; // survey.rt: what all lines say, and the first faults among them
 
@@ -13,7 +15,7 @@ use self::survey::{Survey, Surveyed};
 use automaton::{Automaton, Checked, Mode, Named, Refusal};
 
 // What `read` answers: the automaton, the number of its mode and the number of its moves.
-#[derive(Drop)]
+#[derive(Clone, Copy)]
 pub enum Reading {
     Held(Automaton, usize, usize),
     Refused(Refusal),

@@ -8,7 +8,7 @@ use lines::line::Line;
 use lines::reader;
 
 // The numbers that the lines so far say. `strayed`, `outside` and `unsorted` count the lines before the first at fault.
-#[derive(Drop)]
+#[derive(Clone, Copy)]
 pub struct Survey {
     pub states: usize,
     pub letters: usize,
@@ -26,7 +26,7 @@ pub struct Survey {
 }
 
 // The survey of a whole text, or the number of its first line of wrong form or order.
-#[derive(Drop)]
+#[derive(Clone, Copy)]
 pub enum Surveyed {
     Whole(Survey),
     Broken(usize),

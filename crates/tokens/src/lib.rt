@@ -1,4 +1,6 @@
 // The tokens of a Hanoi file: `token_from` gives the one at or after a place, with its first byte and the place behind it.
+#![tactic(auto)]
+
 ghost use Rattle.std.specs.Prelude.{◌≡◌, cond, drop, get_or, length, ◌+◌, ◌≤◌, ◌<◌};
 ghost use Rattle.fields.specs.Bytes.{same};
 ghost use Rattle.tokens.specs.Sorts.{minor, wrong as wrongSort};
@@ -7,7 +9,7 @@ ghost use Rattle.tokens.specs.Tokens.{blank, dashed, digit, gap, head_sort, lett
 use fields::Number;
 
 // A token: what it is, the value of a number (0 of all others), the place of its first byte and the place behind it.
-#[derive(Drop)]
+#[derive(Clone, Copy)]
 pub struct Token {
     pub sort: u8,
     pub value: usize,
@@ -16,14 +18,14 @@ pub struct Token {
 }
 
 // Where white space and comments end, and how many comments are left open there.
-#[derive(Drop)]
+#[derive(Clone, Copy)]
 pub struct Gap {
     pub at: usize,
     pub inside: usize,
 }
 
 // What a token is: a class of the format, or one word or sign of it.
-#[derive(Drop)]
+#[derive(Clone, Copy)]
 pub struct Sort {}
 
 impl Sort {

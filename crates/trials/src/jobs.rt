@@ -6,7 +6,7 @@ ghost use Rattle.std.specs.Prelude.{◌≤◌};
 use automaton::Automaton;
 
 // The refusals whose faults the job has: those from one number to another.
-#[derive(Drop)]
+#[derive(Clone, Copy)]
 pub struct Faults {
     pub first: usize,
     pub last: usize,

@@ -1,4 +1,6 @@
 // Runs the calls and prints what they answered; the file `stdout` has what they should. A difference is printed with its automaton.
+#![tactic(auto)]
+
 mod cases; // cases.rt: document 01's cases that are not proved
 mod jobs; // jobs.rt: a job for the calls with chosen faults
 mod refusals; // refusals.rt: every refusal of every call

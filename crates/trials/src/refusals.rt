@@ -16,7 +16,7 @@ const REFUSALS: usize = 17;
 const UNWRITTEN: u8 = 7;
 
 // The numbers that a job hands to the calls.
-#[derive(Drop)]
+#[derive(Clone, Copy)]
 struct Job {
     a: Automaton,
     mode: usize,
@@ -24,7 +24,7 @@ struct Job {
 }
 
 // What a call answered, and whether it left alone what it was lent or was accepted.
-#[derive(Drop)]
+#[derive(Clone, Copy)]
 struct Tried {
     told: Told,
     kept: bool,

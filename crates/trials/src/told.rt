@@ -5,7 +5,7 @@ use quotient::Merged;
 use relation::{Related, Replied};
 use table::{Cleared, Lifted, Rested, Settled};
 
-#[derive(Drop)]
+#[derive(Clone, Copy)]
 pub struct Told {
     pub number: usize,
     pub place: usize,

@@ -13,7 +13,7 @@ use arena::Arena;
 use automaton::wide;
 
 // The state of the best move so far and the entry that it leads to.
-#[derive(Drop)]
+#[derive(Clone, Copy)]
 pub enum Best {
     Nothing,
     Move(usize, u32),

@@ -1,4 +1,6 @@
 // Sets of numbers below 64, each in one word: digit x of the word is 1 where x is a member.
+#![tactic(auto)]
+
 ghost use Rattle.std.specs.Prelude.{◌≡◌, ◌≢◌, ◌≤◌, ◌<◌, eqb};
 ghost use Rattle.std.specs.Int.Count.{count_trailing_zeros};
 ghost use Rattle.words.specs.Sum.{sum};

@@ -5,10 +5,9 @@ use lib.Bits.{and_lt}
 use lib.Pow.{ones_sub-lt}
 use Rattle.words.proofs.Digits.{dig-and, dig-not}
 use Rattle.words.proofs.Operations.{minus_made}
-use Rattle.words.proofs.minus.Statement.{statement}
-use Rattle.words.proofs.minus.Tie as tie
+use Rattle.words.proofs.minus.Goals as goal
 
-returns : tie.Need-returns
+pub returns : goal.returns
 returns c =
     let a = c.args.a in
     let b = c.args.b in
@@ -17,6 +16,3 @@ returns c =
     minus_made a b _ fa fb
     (λ i l. simp dig-and (omega (arith, dig-not 64 a i fa l, dig-not 64 b i fb l)))
     (and_lt 64 a (2 ^ 64 - 1 - b) fa (ones_sub-lt 64 b))
-
-pub minus-spec : {M : Type 1} → statement M
-minus-spec = tie.close (tie.spec returns)

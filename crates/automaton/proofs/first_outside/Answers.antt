@@ -1,0 +1,21 @@
+-- `automaton::first_outside` meets its contract. The invariant: the first outside move from i on is the first of all.
+-- The measure is the number of moves left.
+use mathlib.Core.Path.{◌≡◌, sym, ◌∙◌}
+use Prim.Native.Nat.{◌-◌, ◌≤◌, ◌/◌}
+use native.Mathlib.Nat.{sub-zero}
+use borrow.Author.Rules.{rules}
+use lib.ListN.{length}
+use Rattle.automaton.specs.Board.{outside}
+use Rattle.automaton.specs.First.{first}
+use Rattle.automaton.proofs.First.{first-here, first_passed, first-end}
+use Rattle.automaton.proofs.first_outside.Goals as goal
+
+pub returns-then-is_outside : goal.returns-then-is_outside
+returns-then-is_outside c = sym (first-here _ _ _ (sym c.is_outside.ensures ∙ c.if-is_outside.true)) ∙ c.loop-i.invariant.2
+
+pub loop-i-preserved : goal.loop-i-preserved
+loop-i-preserved c =
+    (search rules, search rules, first_passed _ _ _ c.loop-i-test.true (sym c.is_outside.ensures ∙ c.if-is_outside.false) ∙ c.loop-i.invariant.2)
+
+pub returns : goal.returns
+returns c = sym (first-end _ _ _ c.loop-i-test.false) ∙ c.loop-i.invariant.2
