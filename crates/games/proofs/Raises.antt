@@ -27,7 +27,7 @@ rise_still g t v e = go (dec_lt v (length t))
 pub rest_unraised : (g : Game) (t : List ℕ) (v : ℕ) → v < length t → (rise g t v ≡ 0) ↔ (asked g (at t) v ≤ at t v)
 rest_unraised g t v h = (rise-rest g t v h, λ r. rw (lift_still g t v r) (omega arith))
 
-unraised : (g : Game) (t vs : List ℕ) → raises g t vs ≡ 0 → {v : ℕ} → Memᴰ v vs → v < length t → asked g (at t) v ≤ at t v
+unraised : (g : Game) (t : List ℕ) {v : ℕ} (vs : List ℕ) → raises g t vs ≡ 0 → Memᴰ v vs → v < length t → asked g (at t) v ≤ at t v
 unraised g t vs e (Memᴰ.head {x = u} {xs = us} p) h = rw p (rise-rest g t u (rw (← p) h) (omega arith))
 unraised g t vs e (Memᴰ.tail {x = u} {xs = us} m) h =
     unraised g t us (rw (rise_still g t u (omega arith)) at (let z : raises g (lift g t u) us ≡ 0 = omega arith in z)) m h
