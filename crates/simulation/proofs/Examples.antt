@@ -1,6 +1,5 @@
 -- The definitions are neither empty nor full: automata of document 01 are well formed, and pairs of theirs are won and lost by its words.
 use mathlib.Core.Path.{refl}
-use Prim.Native.Nat.{◌<◌}
 use native.Mathlib.Nat.{lt_irrefl}
 use lib.Dec.{lit<}
 use Rattle.games.specs.Game.{ask, lowest, highest, full}

@@ -69,7 +69,7 @@ abbrev pub Rising : ℕ → List ℕ → Type 0
 Rising lo [] = Unit {0}
 Rising lo (x ∷ xs) = (lo ≤ x) × Rising (suc x) xs
 
-pub rising_ge : (lo : ℕ) (l : List ℕ) → Rising lo l → {w : ℕ} → Memᴰ w l → lo ≤ w
+pub rising_ge : {w : ℕ} (lo : ℕ) (l : List ℕ) → Rising lo l → Memᴰ w l → lo ≤ w
 rising_ge lo l r (Memᴰ.head {x = x} {xs = xs} e) = omega arith
 rising_ge lo l r (Memᴰ.tail {x = x} {xs = xs} m) = omega (arith, rising_ge (suc x) xs r.1 m)
 
