@@ -1,14 +1,8 @@
 -- `fields::put_bytes` meets its contract: the bytes left, put from here on, end and lie where all of them do.
-use mathlib.Core.Path.{◌≡◌, sym, ap, ◌∙◌}
-use mathlib.Core.List.{List, [], ◌∷◌}
-use Prim.Native.Nat.{ℕ, ◌+◌, ◌-◌, ◌≤◌}
-use native.Mathlib.Numerals.{add-one}
-use native.Mathlib.Omega.{arith}
-use lib.ListN.{length, get_or, drop, drop_of_length-le}
-use lib.Seq.{drop-cons}
+use mathlib.Core.Path.{◌≡◌}
+use Prim.Native.Nat.{◌-◌, ◌≤◌}
+use lib.ListN.{length, drop}
 use Rattle.fields.specs.Bytes.{laid, stop}
-use Rattle.fields.proofs.Laid.{laid_length, laid_none, stop-none, then_stop, then_laid}
-use borrow.Author.Rules.{rules}
 use Rattle.fields.proofs.put_bytes.Given as goal
 
 abbrev pub invariant-loop-i : goal.invariant-loop-i

@@ -1,13 +1,8 @@
 -- `fields::read_number` meets its contract: the digits left, read after the value so far, say what the whole field says.
-use borrow.Author.Rules.{rules}
-use borrow.Author.Tests.{eq-eqb, ne_eqb, lt-ltb, le-ltb}
-use Prim.Native.Nat.{ℕ, ◌+◌, ◌-◌, ◌*◌, ◌≤◌}
-use mathlib.Core.Path.{◌≡◌, ap, sym, ◌∙◌}
-use native.Mathlib.Omega.{arith}
-use lib.ListN.{length, get_or, drop}
+use Prim.Native.Nat.{◌-◌, ◌≤◌}
+use mathlib.Core.Path.{◌≡◌}
+use lib.ListN.{length, drop}
 use Rattle.fields.specs.Numbers.{digits, number_of}
-use Rattle.fields.proofs.Digits.{digit_low, digit-high, digit_much, digit-on, digit-end}
-use mathlib.Core.Logic.{⊎_elim}
 use Rattle.fields.proofs.read_number.Given as goal
 
 abbrev pub invariant-loop-i : goal.invariant-loop-i
