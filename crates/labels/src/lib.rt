@@ -149,7 +149,7 @@ fn ended(text: &[u8], read: Lettered, end: u8) -> Lettered
 
 // The letters of `t`, `f` or a proposition.
 fn atom(x: Token, props: usize) -> Lettered
-    requires sort_nonzero { (x.sort ≢ sort.group) × (x.sort ≢ sort.not) }
+    requires over { (x.sort ≢ sort.group) × (x.sort ≢ sort.not) }
     requires props_bound { props ≤ 4 }
     ensures { Atom props x result }
 {

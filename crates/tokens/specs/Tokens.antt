@@ -1,5 +1,5 @@
 -- The tokens of a Hanoi file: white space and comments, and what stands at or after a place.
-use Rattle.std.specs.Prelude.{Bool, true, false, cond, ◌&&◌, ◌||◌, List, [], ◌∷◌, ℕ, zero, suc, ◌+◌, ◌-◌, eqb, ltb, leb, length, drop, take, get_or}
+use Rattle.std.specs.Prelude.{Bool, cond, ◌&&◌, ◌||◌, List, [], ◌∷◌, ℕ, zero, suc, ◌+◌, ◌-◌, eqb, ltb, leb, length, drop, take, get_or}
 use Rattle.fields.specs.declared.Number.{Number}
 use Rattle.fields.specs.declared.Number.TheVariants.{Is, Not}
 use Rattle.fields.specs.Bytes.{bytes_of, same}

@@ -1,0 +1,12 @@
+-- `tokens::digits_end` meets its contract: at every turn what is left of the digits ends where the digits end.
+use mathlib.Core.Path.{◌≡◌}
+use Prim.Native.Nat.{◌-◌, ◌≤◌}
+use lib.ListN.{length, drop}
+use Rattle.tokens.specs.Tokens.{digit, past}
+use Rattle.tokens.proofs.digits_end.Given as goal
+
+abbrev pub invariant-loop-i : goal.invariant-loop-i
+invariant-loop-i l = (l.i ≤ length l.text) × (past digit (drop l.i l.text) l.i ≡ past digit (drop l.from l.text) l.from)
+
+abbrev pub decreases-loop-i : goal.decreases-loop-i
+decreases-loop-i l = length l.text - l.i
