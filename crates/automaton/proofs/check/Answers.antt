@@ -32,8 +32,8 @@ returns-then-marks-states c =
     let asked : Answer = checked (board_of c.args.a c.args.marks.now c.args.moves.now) c.args.a.start in
     let limit-lines : List Fault = states_fault c.args.a.states ∷ letters_fault c.args.a.letters ∷ [] in
     let past-limits : asked ≡ after 2 = let limits = c.limits-limited in
-        let e = checked-none (first_fault limit-lines) limits.result c.in-Sound.is limits.ensures in
-        ap (λ f. unless f accepted) (faults_passed limit-lines (left 2) e) in
+    let e = checked-none (first_fault limit-lines) limits.result c.in-Sound.is limits.ensures in
+    ap (λ f. unless f accepted) (faults_passed limit-lines (left 2) e) in
     sym (past-limits ∙ simp (ne_eqb _ _ c.if-marks-states.true))
 
 pub returns-then-mark-states : goal.returns-then-mark-states
@@ -44,8 +44,8 @@ returns-then-mark-states c =
     let asked : Answer = checked (board_of c.args.a c.args.marks.now c.args.moves.now) c.args.a.start in
     let limit-lines : List Fault = states_fault c.args.a.states ∷ letters_fault c.args.a.letters ∷ [] in
     let past-limits : asked ≡ after 2 = let limits = c.limits-limited in
-        let e = checked-none (first_fault limit-lines) limits.result c.in-Sound.is limits.ensures in
-        ap (λ f. unless f accepted) (faults_passed limit-lines (left 2) e) in
+    let e = checked-none (first_fault limit-lines) limits.result c.in-Sound.is limits.ensures in
+    ap (λ f. unless f accepted) (faults_passed limit-lines (left 2) e) in
     let high-at : first (high c.args.marks.now) 0 c.args.a.states ≡ c.first_high-mark.result = rw c.if-marks-states.false at (sym c.first_high-mark.ensures) in
     sym (past-limits ∙ simp (eq-eqb _ _ c.if-marks-states.false, high-at, lt-ltb _ _ c.if-mark-states.true))
 
@@ -57,8 +57,8 @@ returns-then-states-start c =
     let asked : Answer = checked (board_of c.args.a c.args.marks.now c.args.moves.now) c.args.a.start in
     let limit-lines : List Fault = states_fault c.args.a.states ∷ letters_fault c.args.a.letters ∷ [] in
     let past-limits : asked ≡ after 2 = let limits = c.limits-limited in
-        let e = checked-none (first_fault limit-lines) limits.result c.in-Sound.is limits.ensures in
-        ap (λ f. unless f accepted) (faults_passed limit-lines (left 2) e) in
+    let e = checked-none (first_fault limit-lines) limits.result c.in-Sound.is limits.ensures in
+    ap (λ f. unless f accepted) (faults_passed limit-lines (left 2) e) in
     let high-at : first (high c.args.marks.now) 0 c.args.a.states ≡ c.first_high-mark.result = rw c.if-marks-states.false at (sym c.first_high-mark.ensures) in
     let past-marks : asked ≡ after 3 = past-limits ∙ simp (eq-eqb _ _ c.if-marks-states.false, high-at, le-ltb _ _ c.if-mark-states.false) in
     sym (past-marks ∙ simp (le-leb _ _ c.if-states-start.true))
@@ -71,13 +71,13 @@ returns-then-moves-ne0 c =
     let asked : Answer = checked (board_of c.args.a c.args.marks.now c.args.moves.now) c.args.a.start in
     let limit-lines : List Fault = states_fault c.args.a.states ∷ letters_fault c.args.a.letters ∷ [] in
     let past-limits : asked ≡ after 2 = let limits = c.limits-limited in
-        let e = checked-none (first_fault limit-lines) limits.result c.in-Sound.is limits.ensures in
-        ap (λ f. unless f accepted) (faults_passed limit-lines (left 2) e) in
+    let e = checked-none (first_fault limit-lines) limits.result c.in-Sound.is limits.ensures in
+    ap (λ f. unless f accepted) (faults_passed limit-lines (left 2) e) in
     let high-at : first (high c.args.marks.now) 0 c.args.a.states ≡ c.first_high-mark.result = rw c.if-marks-states.false at (sym c.first_high-mark.ensures) in
     let past-marks : asked ≡ after 3 = past-limits ∙ simp (eq-eqb _ _ c.if-marks-states.false, high-at, le-ltb _ _ c.if-mark-states.false) in
     let past-start : asked ≡ after 4 = let a = c.args.a in
-        let below : a.start < a.states = omega (arith, c.if-states-start.false) in
-        past-marks ∙ simp (lt-leb a.states a.start below) in
+    let below : a.start < a.states = omega (arith, c.if-states-start.false) in
+    past-marks ∙ simp (lt-leb a.states a.start below) in
     sym (past-start ∙ simp (ne_eqb _ _ c.if-moves-ne0.true))
 
 pub returns-then-outside-count : goal.returns-then-outside-count
@@ -88,13 +88,13 @@ returns-then-outside-count c =
     let asked : Answer = checked (board_of c.args.a c.args.marks.now c.args.moves.now) c.args.a.start in
     let limit-lines : List Fault = states_fault c.args.a.states ∷ letters_fault c.args.a.letters ∷ [] in
     let past-limits : asked ≡ after 2 = let limits = c.limits-limited in
-        let e = checked-none (first_fault limit-lines) limits.result c.in-Sound.is limits.ensures in
-        ap (λ f. unless f accepted) (faults_passed limit-lines (left 2) e) in
+    let e = checked-none (first_fault limit-lines) limits.result c.in-Sound.is limits.ensures in
+    ap (λ f. unless f accepted) (faults_passed limit-lines (left 2) e) in
     let high-at : first (high c.args.marks.now) 0 c.args.a.states ≡ c.first_high-mark.result = rw c.if-marks-states.false at (sym c.first_high-mark.ensures) in
     let past-marks : asked ≡ after 3 = past-limits ∙ simp (eq-eqb _ _ c.if-marks-states.false, high-at, le-ltb _ _ c.if-mark-states.false) in
     let past-start : asked ≡ after 4 = let a = c.args.a in
-        let below : a.start < a.states = omega (arith, c.if-states-start.false) in
-        past-marks ∙ simp (lt-leb a.states a.start below) in
+    let below : a.start < a.states = omega (arith, c.if-states-start.false) in
+    past-marks ∙ simp (lt-leb a.states a.start below) in
     let past_bytes : asked ≡ after 5 = past-start ∙ simp (eq-eqb _ _ c.if-moves-ne0.false) in
     sym (past_bytes ∙ simp (sym c.first_outside-outside.ensures, lt-ltb _ _ c.if-outside-count.true))
 
@@ -106,13 +106,13 @@ returns-then-unsorted-count c =
     let asked : Answer = checked (board_of c.args.a c.args.marks.now c.args.moves.now) c.args.a.start in
     let limit-lines : List Fault = states_fault c.args.a.states ∷ letters_fault c.args.a.letters ∷ [] in
     let past-limits : asked ≡ after 2 = let limits = c.limits-limited in
-        let e = checked-none (first_fault limit-lines) limits.result c.in-Sound.is limits.ensures in
-        ap (λ f. unless f accepted) (faults_passed limit-lines (left 2) e) in
+    let e = checked-none (first_fault limit-lines) limits.result c.in-Sound.is limits.ensures in
+    ap (λ f. unless f accepted) (faults_passed limit-lines (left 2) e) in
     let high-at : first (high c.args.marks.now) 0 c.args.a.states ≡ c.first_high-mark.result = rw c.if-marks-states.false at (sym c.first_high-mark.ensures) in
     let past-marks : asked ≡ after 3 = past-limits ∙ simp (eq-eqb _ _ c.if-marks-states.false, high-at, le-ltb _ _ c.if-mark-states.false) in
     let past-start : asked ≡ after 4 = let a = c.args.a in
-        let below : a.start < a.states = omega (arith, c.if-states-start.false) in
-        past-marks ∙ simp (lt-leb a.states a.start below) in
+    let below : a.start < a.states = omega (arith, c.if-states-start.false) in
+    past-marks ∙ simp (lt-leb a.states a.start below) in
     let past_bytes : asked ≡ after 5 = past-start ∙ simp (eq-eqb _ _ c.if-moves-ne0.false) in
     let past-outside : asked ≡ after 6 = past_bytes ∙ simp (sym c.first_outside-outside.ensures, le-ltb _ _ c.if-outside-count.false) in
     let count = length c.args.moves.now / 3 in
@@ -127,13 +127,13 @@ returns c =
     let asked : Answer = checked (board_of c.args.a c.args.marks.now c.args.moves.now) c.args.a.start in
     let limit-lines : List Fault = states_fault c.args.a.states ∷ letters_fault c.args.a.letters ∷ [] in
     let past-limits : asked ≡ after 2 = let limits = c.limits-limited in
-        let e = checked-none (first_fault limit-lines) limits.result c.in-Sound.is limits.ensures in
-        ap (λ f. unless f accepted) (faults_passed limit-lines (left 2) e) in
+    let e = checked-none (first_fault limit-lines) limits.result c.in-Sound.is limits.ensures in
+    ap (λ f. unless f accepted) (faults_passed limit-lines (left 2) e) in
     let high-at : first (high c.args.marks.now) 0 c.args.a.states ≡ c.first_high-mark.result = rw c.if-marks-states.false at (sym c.first_high-mark.ensures) in
     let past-marks : asked ≡ after 3 = past-limits ∙ simp (eq-eqb _ _ c.if-marks-states.false, high-at, le-ltb _ _ c.if-mark-states.false) in
     let past-start : asked ≡ after 4 = let a = c.args.a in
-        let below : a.start < a.states = omega (arith, c.if-states-start.false) in
-        past-marks ∙ simp (lt-leb a.states a.start below) in
+    let below : a.start < a.states = omega (arith, c.if-states-start.false) in
+    past-marks ∙ simp (lt-leb a.states a.start below) in
     let past_bytes : asked ≡ after 5 = past-start ∙ simp (eq-eqb _ _ c.if-moves-ne0.false) in
     let past-outside : asked ≡ after 6 = past_bytes ∙ simp (sym c.first_outside-outside.ensures, le-ltb _ _ c.if-outside-count.false) in
     sym (past-outside ∙ simp (sym c.first_unsorted-unsorted.ensures, le-ltb _ _ c.if-unsorted-count.false))
