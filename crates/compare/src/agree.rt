@@ -6,6 +6,7 @@ use arena::Counted;
 use automaton::Automaton;
 use relation::Related;
 use second::Reckoned;
+use std::io;
 use table::Settled;
 
 // The entries and the pairs of the largest automata drawn.
@@ -109,26 +110,26 @@ fn compared(a: Automaton, marks: &[u8], moves: &[u8], mode: usize) -> Outcome {
 }
 
 // Does the relation agree with `second`'s in all four modes? If it does not, says where, with the automaton.
-pub fn agrees(a: Automaton, marks: &[u8], moves: &[u8]) -> bool {
+pub fn agrees(rt: &impl Print, a: Automaton, marks: &[u8], moves: &[u8]) -> io::Result<bool> {
     let mut mode = 0;
     while mode < 4 {
         let outcome = compared(a, marks, moves, mode);
         match outcome {
             Outcome::Same => {}
             Outcome::Differs => {
-                text::print(b"the relations differ\n");
-                text::show(a, marks, moves, mode);
-                return false;
+                text::print(rt, b"the relations differ\n")?;
+                text::show(rt, a, marks, moves, mode)?;
+                return Ok(false);
             }
             Outcome::Refused(number) => {
-                text::print(b"refused");
-                text::print_number(number);
-                text::print(b"\n");
-                text::show(a, marks, moves, mode);
-                return false;
+                text::print(rt, b"refused")?;
+                text::print_number(rt, number)?;
+                text::print(rt, b"\n")?;
+                text::show(rt, a, marks, moves, mode)?;
+                return Ok(false);
             }
         }
         mode += 1;
     }
-    true
+    Ok(true)
 }

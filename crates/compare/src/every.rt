@@ -1,9 +1,10 @@
 // All automata of a size, and many at random, each held against `second` in all four modes.
 use super::{agree, draw, more};
 use automaton::Automaton;
+use std::io;
 
 // Tries every set of accepting states with the moves given: how many automata agreed. It ends at the first that does not.
-fn all_marks(states: usize, letters: usize, moves: &[u8]) -> u64 {
+fn all_marks(rt: &impl Print, states: usize, letters: usize, moves: &[u8]) -> io::Result<u64> {
     let a = Automaton {
         states: states,
         letters: letters,
@@ -16,18 +17,24 @@ fn all_marks(states: usize, letters: usize, moves: &[u8]) -> u64 {
     while number < sets {
         let mut marks = [0u8; draw::STATES];
         draw::spread(number, &mut marks);
-        if !agree::agrees(a, &marks[0..count], moves) {
-            return agreed;
+        if !agree::agrees(rt, a, &marks[0..count], moves)? {
+            return Ok(agreed);
         }
         agreed = more(agreed, 1);
         number += 1;
     }
-    agreed
+    Ok(agreed)
 }
 
 // Tries the sets of moves from one number to another, with every set of accepting states: how many automata agreed.
 // A set's number has a bit for each move, in their order. It ends at the first set with a difference.
-pub fn all_moves(states: usize, letters: usize, from: usize, to: usize) -> u64 {
+pub fn all_moves(
+    rt: &impl Print,
+    states: usize,
+    letters: usize,
+    from: usize,
+    to: usize,
+) -> io::Result<u64> {
     let mut agreed = 0;
     let mut number = from;
     while number < to {
@@ -35,19 +42,19 @@ pub fn all_moves(states: usize, letters: usize, from: usize, to: usize) -> u64 {
         let mut moves = [0u8; draw::BYTES];
         draw::spread(number, &mut present);
         let bytes = draw::moves_of(states, letters, &present, &mut moves);
-        let more_agreed = all_marks(states, letters, &moves[0..bytes]);
+        let more_agreed = all_marks(rt, states, letters, &moves[0..bytes])?;
         agreed = more(agreed, more_agreed);
         if more_agreed != 1u64 << draw::most_states(states) {
-            return agreed;
+            return Ok(agreed);
         }
         number += 1;
     }
-    agreed
+    Ok(agreed)
 }
 
 // Tries so many automata of 1 to 8 states and 1 to 4 letters, with few moves, so that many states have none, up to nearly all:
 // how many agreed. It ends at the first that does not.
-pub fn at_random(seed: u64, count: u64) -> u64 {
+pub fn at_random(rt: &impl Print, seed: u64, count: u64) -> io::Result<u64> {
     let mut drawn = seed;
     let mut agreed = 0;
     while agreed < count {
@@ -65,10 +72,10 @@ pub fn at_random(seed: u64, count: u64) -> u64 {
             letters: letters,
             start: 0,
         };
-        if !agree::agrees(a, &marks[0..states], &moves[0..bytes]) {
-            return agreed;
+        if !agree::agrees(rt, a, &marks[0..states], &moves[0..bytes])? {
+            return Ok(agreed);
         }
         agreed += 1;
     }
-    agreed
+    Ok(agreed)
 }

@@ -2,6 +2,7 @@
 use super::listed::try_list;
 use super::printed::print;
 use super::tried::program;
+use std::io;
 
 // Two states and two propositions.
 const HEADER: [u8; 71] =
@@ -56,8 +57,8 @@ a bracket closed 16 deep\tState: 0 [(((((((((((((((()
 23 behind 24\tState: 0 [(((((((((((((((((2)))))))))))))))))] 2 --ABORT--
 ";
 
-pub fn run() {
-    print(b"bodies\n");
-    try_list(&STATES, &HEADER, program());
-    try_list(&LABELS, &HEADER, program());
+pub fn run(rt: &impl Print) -> io::Result<()> {
+    print(rt, b"bodies\n")?;
+    try_list(rt, &STATES, &HEADER, program())?;
+    try_list(rt, &LABELS, &HEADER, program())
 }

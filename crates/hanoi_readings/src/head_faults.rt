@@ -2,6 +2,7 @@
 use super::listed::try_list;
 use super::printed::print;
 use super::tried::program;
+use std::io;
 
 // What comes first.
 const FIRST: [u8; 356] = *b"nothing\t
@@ -60,9 +61,9 @@ a number for a header\t1 --BODY-- --END--
 no body\t
 ";
 
-pub fn run() {
-    print(b"headers\n");
-    try_list(&FIRST, b"", program());
-    try_list(&REQUIRED, b"HOA: v1 ", program());
-    try_list(&MORE, &WHOLE, program());
+pub fn run(rt: &impl Print) -> io::Result<()> {
+    print(rt, b"headers\n")?;
+    try_list(rt, &FIRST, b"", program())?;
+    try_list(rt, &REQUIRED, b"HOA: v1 ", program())?;
+    try_list(rt, &MORE, &WHOLE, program())
 }

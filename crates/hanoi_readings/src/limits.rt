@@ -3,6 +3,7 @@ use super::listed::try_list;
 use super::printed::print;
 use super::tried::{library, program, try_file, try_program};
 use super::writers::SPOT;
+use std::io;
 
 // Behind `HOA: v1`, for the programs.
 const PROGRAM: [u8; 1238] = *b"1: none\tStates: 0 Start: 0 Acceptance: 1 Inf(0) --BODY-- --END--
@@ -33,28 +34,28 @@ const LIBRARY: [u8; 399] =
 const LATE: [u8; 64] = *b"HOA: v1 States: 2 Start: 2 Acceptance: 1 Inf(0) --BODY-- --END--";
 
 // A file with white space behind it, as long as a file may be; a byte longer; and as long and of wrong form.
-fn lengths() {
+fn lengths(rt: &impl Print) -> io::Result<()> {
     let mut text = [b' '; text::BYTES + 1];
-    bytes::copy(&SPOT, &mut text[..]);
-    try_program(&text[0..text::BYTES]);
-    try_program(&text[..]);
-    try_program(&text[1..]);
+    fields::put_bytes(&mut text[..], 0, &SPOT);
+    try_program(rt, &text[0..text::BYTES])?;
+    try_program(rt, &text[..])?;
+    try_program(rt, &text[1..])
 }
 
 // A mark short, a byte of a move short, just enough; and 4 before 16.
-fn room() {
-    try_file(&SPOT, program(), 1, 24);
-    try_file(&SPOT, program(), 2, 23);
-    try_file(&SPOT, program(), 2, 24);
-    try_file(&LATE, program(), 0, 0);
+fn room(rt: &impl Print) -> io::Result<()> {
+    try_file(rt, &SPOT, program(), 1, 24)?;
+    try_file(rt, &SPOT, program(), 2, 23)?;
+    try_file(rt, &SPOT, program(), 2, 24)?;
+    try_file(rt, &LATE, program(), 0, 0)
 }
 
-pub fn run() {
-    print(b"limits\n");
-    try_list(&PROGRAM, b"HOA: v1 ", program());
-    try_list(&LIBRARY, b"HOA: v1 ", library());
-    print(b"lengths\n");
-    lengths();
-    print(b"buffers\n");
-    room();
+pub fn run(rt: &impl Print) -> io::Result<()> {
+    print(rt, b"limits\n")?;
+    try_list(rt, &PROGRAM, b"HOA: v1 ", program())?;
+    try_list(rt, &LIBRARY, b"HOA: v1 ", library())?;
+    print(rt, b"lengths\n")?;
+    lengths(rt)?;
+    print(rt, b"buffers\n")?;
+    room(rt)
 }

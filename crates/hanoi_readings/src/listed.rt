@@ -1,33 +1,54 @@
 // Files in a list, one to a line: a title, a tab, and the file behind a front that all of the list have.
+ghost use Rattle.std.specs.Prelude.{◌≤◌, length};
+
 use super::printed::print;
 use super::tried::try_whole;
 use hanoi::Limits;
+use std::io;
 
 // Room for a file.
 const ROOM: usize = 256;
 
+// The place of the first such byte from a place on; the length if there is none.
+fn find(bytes: &[u8], from: usize, byte: u8) -> usize
+    requires { from ≤ length bytes.now }
+    ensures from_on { from ≤ result }
+    ensures within { result ≤ length bytes.now }
+{
+    let mut i = from;
+    while i < bytes.len() {
+        if bytes[i] == byte {
+            return i;
+        }
+        i += 1;
+    }
+    i
+}
+
 // Reads the file of a line, and prints the title first.
-fn try_line(line: &[u8], front: &[u8], limits: Limits) {
+fn try_line(rt: &impl Print, line: &[u8], front: &[u8], limits: Limits) -> io::Result<()> {
     let mut text = [0u8; ROOM];
-    let tab = bytes::scan::find(line, 0, line.len(), fields::TAB);
-    print(&line[0..tab]);
-    print(b"\t");
+    let tab = find(line, 0, fields::TAB);
+    print(rt, &line[0..tab])?;
+    print(rt, b"\t")?;
     if line.len() <= tab {
-        return;
+        return Ok(());
     }
     let start = fields::put_bytes(&mut text[..], 0, front);
     let end = fields::put_bytes(&mut text[..], start, &line[tab + 1..]);
     if end <= ROOM {
-        try_whole(&text[0..end], limits);
+        return try_whole(rt, &text[0..end], limits);
     }
+    Ok(())
 }
 
 // Reads the files of a list.
-pub fn try_list(list: &[u8], front: &[u8], limits: Limits) {
+pub fn try_list(rt: &impl Print, list: &[u8], front: &[u8], limits: Limits) -> io::Result<()> {
     let mut i = 0;
     while i < list.len() {
-        let end = bytes::scan::find(list, i, list.len(), b'\n');
-        try_line(&list[i..end], front, limits);
+        let end = find(list, i, b'\n');
+        try_line(rt, &list[i..end], front, limits)?;
         i = end + 1;
     }
+    Ok(())
 }

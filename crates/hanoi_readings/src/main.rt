@@ -12,11 +12,13 @@ mod reports; // reports.rt: what the relation programs print
 mod tried; // tried.rt: one file read, and what is printed of it
 mod writers; // writers.rt: files that are read
 
-fn main() {
-    writers::run();
-    head_faults::run();
-    body_faults::run();
-    limits::run();
-    cuts::run();
-    reports::run();
+use std::io;
+
+fn main(rt: HostRuntime) -> io::Result<()> {
+    writers::run(&rt)?;
+    head_faults::run(&rt)?;
+    body_faults::run(&rt)?;
+    limits::run(&rt)?;
+    cuts::run(&rt)?;
+    reports::run(&rt)
 }

@@ -1,23 +1,23 @@
 // Writing to standard output.
 use automaton::wide;
-use libc::STDOUT_FILENO;
+use std::io;
 
 // Writes the bytes.
-pub fn print(bytes: &[u8]) {
-    io::write_all(STDOUT_FILENO, bytes);
+pub fn print(rt: &impl Print, bytes: &[u8]) -> io::Result<()> {
+    rt.write_all(bytes)
 }
 
 // Writes a tab and a number.
-pub fn print_number(number: usize) {
-    print(b"\t");
-    io::print_decimal(STDOUT_FILENO, number as u64);
+pub fn print_number(rt: &impl Print, number: usize) -> io::Result<()> {
+    print!(rt; "\t{number}")
 }
 
 // Writes each byte as a number.
-pub fn print_row(bytes: &[u8]) {
+pub fn print_row(rt: &impl Print, bytes: &[u8]) -> io::Result<()> {
     let mut i = 0;
     while i < bytes.len() {
-        print_number(wide(bytes[i]));
+        print_number(rt, wide(bytes[i]))?;
         i += 1;
     }
+    Ok(())
 }

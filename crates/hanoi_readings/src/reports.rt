@@ -3,6 +3,7 @@
 use super::printed::{print, print_number};
 use super::writers::{HAND, SPOT};
 use report::Reported;
+use std::io;
 
 // How many bytes a report has, and none if the buffer was too short.
 fn length_of(reported: Reported) -> usize {
@@ -13,32 +14,34 @@ fn length_of(reported: Reported) -> usize {
 }
 
 // Prints the bytes before a place.
-fn print_bytes(bytes: &[u8], end: usize) {
+fn print_bytes(rt: &impl Print, bytes: &[u8], end: usize) -> io::Result<()> {
     if end <= bytes.len() {
-        print(&bytes[0..end]);
+        return print(rt, &bytes[0..end]);
     }
+    Ok(())
 }
 
 // Reports on a file and on a text.
-fn try_both(file: &[u8], text: &[u8]) {
+fn try_both(rt: &impl Print, file: &[u8], text: &[u8]) -> io::Result<()> {
     let mut ours = [0u8; report::LONGEST];
     let mut theirs = [0u8; report::LONGEST];
     let by_file = length_of(hanoi_report::report(file, &mut ours[..]));
     let by_text = length_of(report::report(text, &mut theirs[..]));
-    print(b"report");
-    print_number(by_file);
-    print_number(by_text);
+    print(rt, b"report")?;
+    print_number(rt, by_file)?;
+    print_number(rt, by_text)?;
     if check::same(&ours[..], &theirs[..]) {
-        print(b"\tthe same\n");
+        print(rt, b"\tthe same\n")?;
     } else {
-        print(b"\tdifferent\n");
+        print(rt, b"\tdifferent\n")?;
     }
-    print_bytes(&ours[..], by_file);
+    print_bytes(rt, &ours[..], by_file)
 }
 
 // The automaton of the file `SPOT`.
-fn spot() {
+fn spot(rt: &impl Print) -> io::Result<()> {
     try_both(
+        rt,
         &SPOT,
         b"automaton\t2\t4\t0
 mode\t2
@@ -52,12 +55,13 @@ move\t1\t1\t1
 move\t1\t2\t0
 move\t1\t3\t0
 ",
-    );
+    )
 }
 
 // The automaton of the file `HAND`.
-fn hand() {
+fn hand(rt: &impl Print) -> io::Result<()> {
     try_both(
+        rt,
         &HAND,
         b"automaton\t3\t8\t1
 mode\t2
@@ -82,27 +86,27 @@ move\t2\t5\t0
 move\t2\t6\t0
 move\t2\t7\t0
 ",
-    );
+    )
 }
 
 // A buffer a byte shorter than the longest report.
-fn too_short() {
+fn too_short(rt: &impl Print) -> io::Result<()> {
     let mut out = [0u8; report::LONGEST - 1];
     let reported = hanoi_report::report(&SPOT, &mut out[..]);
     match reported {
-        Reported::Bytes(bytes) => print_number(bytes),
+        Reported::Bytes(bytes) => print_number(rt, bytes)?,
         Reported::Refused(refusal) => {
-            print(b"refused");
-            print_number(refusal.number());
+            print(rt, b"refused")?;
+            print_number(rt, refusal.number())?;
         }
     }
-    print(b"\n");
+    print(rt, b"\n")
 }
 
-pub fn run() {
-    print(b"reports\n");
-    spot();
-    hand();
-    try_both(b"", b""); // refused with 23 and with 20
-    too_short();
+pub fn run(rt: &impl Print) -> io::Result<()> {
+    print(rt, b"reports\n")?;
+    spot(rt)?;
+    hand(rt)?;
+    try_both(rt, b"", b"")?; // refused with 23 and with 20
+    too_short(rt)
 }

@@ -5,6 +5,7 @@ ghost use Rattle.std.specs.Prelude.{◌≤◌};
 use super::printed::{print, print_number, print_row};
 use automaton::Automaton;
 use hanoi::{Limits, Reading};
+use std::io;
 
 // What the buffers hold before a call.
 const UNWRITTEN: u8 = 170;
@@ -43,57 +44,78 @@ fn unwritten(bytes: &[u8], from: usize) -> bool {
 }
 
 // Prints the bytes before a place.
-fn print_front(bytes: &[u8], end: usize) {
+fn print_front(rt: &impl Print, bytes: &[u8], end: usize) -> io::Result<()> {
     if bytes.len() < end {
-        print(b"\tmore than the buffer holds");
-        return;
+        return print(rt, b"\tmore than the buffer holds");
     }
-    print_row(&bytes[0..end]);
+    print_row(rt, &bytes[0..end])
 }
 
 // Ends a line that tells of marks and bytes of moves.
-fn end_line(marks: &[u8; MARKS], states: usize, moves: &[u8; MOVES], bytes: usize) {
+fn end_line(
+    rt: &impl Print,
+    marks: &[u8; MARKS],
+    states: usize,
+    moves: &[u8; MOVES],
+    bytes: usize,
+) -> io::Result<()> {
     if !(unwritten(&marks[..], states) & unwritten(&moves[..], bytes)) {
-        print(b"\tchanged");
+        print(rt, b"\tchanged")?;
     }
-    print(b"\n");
+    print(rt, b"\n")
 }
 
 // Prints a file that was read: a mark a state and three bytes a move are written, and nothing past them.
-fn held(a: Automaton, count: usize, marks: &[u8; MARKS], moves: &[u8; MOVES]) {
+fn held(
+    rt: &impl Print,
+    a: Automaton,
+    count: usize,
+    marks: &[u8; MARKS],
+    moves: &[u8; MOVES],
+) -> io::Result<()> {
     let states = a.states;
-    print(b"held");
-    print_number(states);
-    print_number(a.letters);
-    print_number(a.start);
-    print_number(count);
+    print(rt, b"held")?;
+    print_number(rt, states)?;
+    print_number(rt, a.letters)?;
+    print_number(rt, a.start)?;
+    print_number(rt, count)?;
     if MOVES / 3 < count {
-        print(b"\tmore than the buffer holds\n");
-        return;
+        return print(rt, b"\tmore than the buffer holds\n");
     }
-    end_line(marks, states, moves, count * 3);
-    print(b"marks");
-    print_front(&marks[..], states);
-    print(b"\tmoves");
-    print_front(&moves[..], count * 3);
-    print(b"\n");
+    end_line(rt, marks, states, moves, count * 3)?;
+    print(rt, b"marks")?;
+    print_front(rt, &marks[..], states)?;
+    print(rt, b"\tmoves")?;
+    print_front(rt, &moves[..], count * 3)?;
+    print(rt, b"\n")
 }
 
 // Prints what `read` answered, and what it left in the buffers.
-fn tell(reading: Reading, marks: &[u8; MARKS], moves: &[u8; MOVES]) {
+fn tell(
+    rt: &impl Print,
+    reading: Reading,
+    marks: &[u8; MARKS],
+    moves: &[u8; MOVES],
+) -> io::Result<()> {
     match reading {
         Reading::Refused(refusal) => {
-            print(b"refused");
-            print_number(refusal.number());
-            print_number(refusal.place());
-            end_line(marks, 0, moves, 0);
+            print(rt, b"refused")?;
+            print_number(rt, refusal.number())?;
+            print_number(rt, refusal.place())?;
+            end_line(rt, marks, 0, moves, 0)
         }
-        Reading::Held(a, count) => held(a, count, marks, moves),
+        Reading::Held(a, count) => held(rt, a, count, marks, moves),
     }
 }
 
 // Reads a file within limits into as many bytes for the marks and for the moves.
-pub fn try_file(text: &[u8], limits: Limits, marks: usize, moves: usize)
+pub fn try_file(
+    rt: &impl Print,
+    text: &[u8],
+    limits: Limits,
+    marks: usize,
+    moves: usize,
+) -> io::Result<()>
     requires marks_bound { marks ≤ MARKS }
     requires moves_bound { moves ≤ MOVES }
 {
@@ -105,17 +127,17 @@ pub fn try_file(text: &[u8], limits: Limits, marks: usize, moves: usize)
         &mut markbytes[0..marks],
         &mut movebytes[0..moves],
     );
-    tell(reading, &markbytes, &movebytes);
+    tell(rt, reading, &markbytes, &movebytes)
 }
 
 // Reads a file within limits into the whole buffers.
-pub fn try_whole(text: &[u8], limits: Limits) {
-    try_file(text, limits, MARKS, MOVES);
+pub fn try_whole(rt: &impl Print, text: &[u8], limits: Limits) -> io::Result<()> {
+    try_file(rt, text, limits, MARKS, MOVES)
 }
 
 // Reads a file within the limits of the programs.
-pub fn try_program(text: &[u8]) {
-    try_whole(text, program());
+pub fn try_program(rt: &impl Print, text: &[u8]) -> io::Result<()> {
+    try_whole(rt, text, program())
 }
 
 // Whether a file is refused with 23 or 24 at a place no further than its length, and nothing is written.

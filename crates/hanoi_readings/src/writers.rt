@@ -2,6 +2,7 @@
 use super::listed::try_list;
 use super::printed::print;
 use super::tried::{program, try_program};
+use std::io;
 
 // As Spot's ltl2tgba -B writes them.
 pub const SPOT: [u8; 292] = *b"HOA: v1
@@ -105,18 +106,18 @@ nothing where nothing need be\tHOA:v1/**/Start:0 States:1 AP:1\"\"Acceptance:1In
 carriage returns\tHOA:\rv1\r\rStates:\r1\rStart:\r0\rAcceptance:\r1\rInf(0)\r--BODY--\rState:\r0\r[t]\r0\r--END--\r
 ";
 
-pub fn run() {
-    print(b"files\nSpot\t");
-    try_program(&SPOT);
-    print(b"LTL3BA\t");
-    try_program(&LTL3BA);
-    print(b"Owl\t");
-    try_program(&OWL);
-    print(b"by hand\t");
-    try_program(&HAND);
-    print(b"16 deep\t");
-    try_program(&DEEP);
-    print(b"binding\t");
-    try_program(&BINDINGS);
-    try_list(&SMALL, b"", program());
+pub fn run(rt: &impl Print) -> io::Result<()> {
+    print(rt, b"files\nSpot\t")?;
+    try_program(rt, &SPOT)?;
+    print(rt, b"LTL3BA\t")?;
+    try_program(rt, &LTL3BA)?;
+    print(rt, b"Owl\t")?;
+    try_program(rt, &OWL)?;
+    print(rt, b"by hand\t")?;
+    try_program(rt, &HAND)?;
+    print(rt, b"16 deep\t")?;
+    try_program(rt, &DEEP)?;
+    print(rt, b"binding\t")?;
+    try_program(rt, &BINDINGS)?;
+    try_list(rt, &SMALL, b"", program())
 }

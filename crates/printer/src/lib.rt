@@ -1,8 +1,8 @@
 // What the programs print, put into a buffer: the line of a refusal, and the relation of an automaton within their limits.
 #![tactic(auto)]
 
-mod lines; // lines.rt: one line put into a buffer
 mod pairs; // pairs.rt: the lines of the related pairs
+mod row; // row.rt: one line put into a buffer
 
 ghost use Rattle.std.specs.Prelude.{◌≡◌, ◌*◌, length};
 ghost use Rattle.fields.specs.Bytes.{laid, stop};
@@ -27,7 +27,7 @@ pub fn refuse(out: &mut [u8], refusal: Refusal) -> usize
     ensures out_after { out.new ≡ laid 0 (refusal_text refusal) out.old }
 {
     let values = [refusal.number(), refusal.place()];
-    lines::put(out, 0, b"refused", &values[..])
+    row::put(out, 0, b"refused", &values[..])
 }
 
 // Puts the relation of an automaton within the limits of the programs: the place past it.
@@ -66,10 +66,10 @@ fn describe_on(
         Settled::Refused(refusal) => refuse(out, refusal),
         Settled::Raised(raised) => {
             let first = [mode, states];
-            let begun = lines::put(out, 0, b"relation", &first[..]);
+            let begun = row::put(out, 0, b"relation", &first[..]);
             let told = put_pairs(a, marks, moves, mode, &table[..], out, begun);
             let last = [raised];
-            lines::put(out, told, b"raised", &last[..])
+            row::put(out, told, b"raised", &last[..])
         }
     }
 }

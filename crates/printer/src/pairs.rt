@@ -5,7 +5,7 @@ ghost use Rattle.simulation.specs.Answers.{relation};
 ghost use Rattle.arena.specs.Seats.{bare, Seated};
 ghost use Rattle.printer.specs.Printed.{entry_at, pair_line, pair_lines_from};
 
-use super::lines;
+use super::row;
 use arena::Arena;
 
 // Puts the line of each pair whose byte is 1: the place past them.
@@ -44,7 +44,7 @@ fn put_one(g: Arena, marks: &[u8], table: &[u32], i: usize, out: &mut [u8], at: 
     let red = i / states;
     let blue = i % states;
     let values = [red, blue, entry(g, marks, table, i)];
-    lines::put(out, at, b"pair", &values[..])
+    row::put(out, at, b"pair", &values[..])
 }
 
 // The entry where pair i begins.

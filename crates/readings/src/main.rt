@@ -8,9 +8,11 @@ mod reports; // reports.rt: what the relation program prints
 mod shape; // shape.rt: texts that are too long, or of wrong form or order
 mod tried; // tried.rt: one text read, and what is printed of it
 
-fn main() {
-    shape::run();
-    numbers::run();
-    accepted::run();
-    reports::run();
+use std::io;
+
+fn main(rt: HostRuntime) -> io::Result<()> {
+    shape::run(&rt)?;
+    numbers::run(&rt)?;
+    accepted::run(&rt)?;
+    reports::run(&rt)
 }

@@ -1,13 +1,12 @@
 // Writing to standard output.
-use libc::STDOUT_FILENO;
+use std::io;
 
 // Writes the bytes.
-pub fn print(bytes: &[u8]) {
-    io::write_all(STDOUT_FILENO, bytes);
+pub fn print(rt: &impl Print, bytes: &[u8]) -> io::Result<()> {
+    rt.write_all(bytes)
 }
 
 // Writes a tab and a number.
-pub fn print_number(number: usize) {
-    print(b"\t");
-    io::print_decimal(STDOUT_FILENO, number as u64);
+pub fn print_number(rt: &impl Print, number: usize) -> io::Result<()> {
+    print!(rt; "\t{number}")
 }

@@ -4,6 +4,7 @@ ghost use Rattle.std.specs.Prelude.{◌≤◌, length};
 
 use super::printed::{print, print_number};
 use automaton::{Automaton, wide};
+use std::io;
 use text::Reading;
 
 // What the buffers hold before a call.
@@ -30,71 +31,89 @@ pub fn changed(bytes: &[u8], from: usize) -> usize
 }
 
 // Prints the bytes before a place.
-fn print_front(bytes: &[u8], end: usize) {
+fn print_front(rt: &impl Print, bytes: &[u8], end: usize) -> io::Result<()> {
     let mut i = 0;
     while i < end && i < bytes.len() {
-        print_number(wide(bytes[i]));
+        print_number(rt, wide(bytes[i]))?;
         i += 1;
     }
+    Ok(())
 }
 
 // Prints the number and the place of an answer.
-pub fn print_answer(number: usize, place: usize) {
-    print_number(number);
-    print_number(place);
+pub fn print_answer(rt: &impl Print, number: usize, place: usize) -> io::Result<()> {
+    print_number(rt, number)?;
+    print_number(rt, place)
 }
 
 // Prints how many marks and bytes of moves changed past those that may have.
-fn print_changed(marks: &[u8; MARKS], states: usize, moves: &[u8; MOVES], bytes: usize) {
-    print_number(changed(&marks[..], states) + changed(&moves[..], bytes));
-    print(b"\n");
+fn print_changed(
+    rt: &impl Print,
+    marks: &[u8; MARKS],
+    states: usize,
+    moves: &[u8; MOVES],
+    bytes: usize,
+) -> io::Result<()> {
+    print_number(rt, changed(&marks[..], states) + changed(&moves[..], bytes))?;
+    print(rt, b"\n")
 }
 
 // Prints an accepted text: a mark a state and three bytes a move are written, and nothing past them.
-fn held(a: Automaton, mode: usize, count: usize, marks: &[u8; MARKS], moves: &[u8; MOVES]) {
+fn held(
+    rt: &impl Print,
+    a: Automaton,
+    mode: usize,
+    count: usize,
+    marks: &[u8; MARKS],
+    moves: &[u8; MOVES],
+) -> io::Result<()> {
     let states = a.states;
-    print_answer(0, 0);
-    print_number(states);
-    print_number(a.letters);
-    print_number(a.start);
-    print_number(mode);
-    print_number(count);
+    print_answer(rt, 0, 0)?;
+    print_number(rt, states)?;
+    print_number(rt, a.letters)?;
+    print_number(rt, a.start)?;
+    print_number(rt, mode)?;
+    print_number(rt, count)?;
     if MOVES / 3 < count {
-        print(b"\tmore moves than the buffer holds\n");
-        return;
+        return print(rt, b"\tmore moves than the buffer holds\n");
     }
-    print_changed(marks, states, moves, count * 3);
-    print(b"marks");
-    print_front(&marks[..], states);
-    print(b"\tmoves");
-    print_front(&moves[..], count * 3);
-    print(b"\n");
+    print_changed(rt, marks, states, moves, count * 3)?;
+    print(rt, b"marks")?;
+    print_front(rt, &marks[..], states)?;
+    print(rt, b"\tmoves")?;
+    print_front(rt, &moves[..], count * 3)?;
+    print(rt, b"\n")
 }
 
 // Prints what `read` answered, and what it left in the buffers.
-fn tell(reading: Reading, marks: &[u8; MARKS], moves: &[u8; MOVES]) {
-    print(b"read");
+fn tell(
+    rt: &impl Print,
+    reading: Reading,
+    marks: &[u8; MARKS],
+    moves: &[u8; MOVES],
+) -> io::Result<()> {
+    print(rt, b"read")?;
     match reading {
         Reading::Refused(refusal) => {
-            print_answer(refusal.number(), refusal.place());
-            print_changed(marks, 0, moves, 0);
+            print_answer(rt, refusal.number(), refusal.place())?;
+            print_changed(rt, marks, 0, moves, 0)
         }
-        Reading::Held(a, mode, count) => held(a, mode, count, marks, moves),
+        Reading::Held(a, mode, count) => held(rt, a, mode, count, marks, moves),
     }
 }
 
 // Reads a text into as many bytes for the marks and for the moves.
-pub fn try_text(text: &[u8], marks: usize, moves: usize)
+pub fn try_text(rt: &impl Print, text: &[u8], marks: usize, moves: usize) -> io::Result<()>
     requires marks_bound { marks ≤ MARKS }
     requires moves_bound { moves ≤ MOVES }
 {
     let mut markbytes = [UNWRITTEN; MARKS];
     let mut movebytes = [UNWRITTEN; MOVES];
     let reading = text::read(text, &mut markbytes[0..marks], &mut movebytes[0..moves]);
-    tell(reading, &markbytes, &movebytes);
+    tell(rt, reading, &markbytes, &movebytes)
 }
 
 // Reads a text into the whole buffers.
-pub fn try_roomy(text: &[u8]) {
-    try_text(text, MARKS, MOVES);
+pub fn try_roomy(rt: &impl Print, text: &[u8]) -> io::Result<()> {
+    try_text(rt, text, MARKS, MOVES)
 }

@@ -4,6 +4,8 @@
 mod played; // played.rt: play by the replies of a table at rest
 mod tables; // tables.rt: tables lifted to rest, and what is read off them
 
-fn main() {
-    tables::run();
+use std::io;
+
+fn main(rt: HostRuntime) -> io::Result<()> {
+    tables::run(&rt)
 }

@@ -7,6 +7,7 @@ use automaton::Automaton;
 use compare::{line, more, print};
 use relation::Related;
 use second::Reckoned;
+use std::io;
 use table::Rested;
 
 // How many automata are drawn, and the most sweeps that a table is given to come to rest: more than the raises that it has room for.
@@ -266,17 +267,26 @@ fn play(
 }
 
 // Prints a table that says what is not so, with its automaton and mode.
-fn tell(seen: Seen, a: Automaton, marks: &[u8], moves: &[u8], mode: usize, entries: &[u32]) {
+fn tell(
+    rt: &impl Print,
+    seen: Seen,
+    a: Automaton,
+    marks: &[u8],
+    moves: &[u8],
+    mode: usize,
+    entries: &[u32],
+) -> io::Result<()> {
     if seen.beyond == 0 && seen.broken == 0 {
-        return;
+        return Ok(());
     }
-    print(b"a table at rest says what is not so\n");
-    compare::show(a, marks, moves, mode);
-    compare::show_table(entries);
+    print(rt, b"a table at rest says what is not so\n")?;
+    compare::show(rt, a, marks, moves, mode)?;
+    compare::show_table(rt, entries)
 }
 
 // Has a table come to rest, and looks at what is read off it: against the settled table, against `second`, and in play.
 fn look(
+    rt: &impl Print,
     a: Automaton,
     mode: usize,
     all: &[u8; 4],
@@ -287,9 +297,9 @@ fn look(
     settled: &mut [u32],
     first: &mut [u8],
     other: &mut [u8],
-) -> Seen {
+) -> io::Result<Seen> {
     if !prepare(a, marks, moves, mode, seed, entries) {
-        return wrong();
+        return Ok(wrong());
     }
     let kept = play(a, mode, all, marks, moves, &entries[..]);
     let unlike = unlike(a, marks, moves, mode, &entries[..], settled);
@@ -304,12 +314,19 @@ fn look(
             broken: 0,
         },
     );
-    tell(seen, a, marks, moves, mode, &entries[..]);
-    seen
+    tell(rt, seen, a, marks, moves, mode, &entries[..])?;
+    Ok(seen)
 }
 
 // Looks at one table in each mode, up to the first that says what is not so.
-fn look_in_modes(a: Automaton, all: &[u8; 4], marks: &[u8], moves: &[u8], seed: u64) -> Seen {
+fn look_in_modes(
+    rt: &impl Print,
+    a: Automaton,
+    all: &[u8; 4],
+    marks: &[u8],
+    moves: &[u8],
+    seed: u64,
+) -> io::Result<Seen> {
     let pairs = compare::pairs_of(a);
     let mut seen = none();
     let mut mode = 0;
@@ -320,6 +337,7 @@ fn look_in_modes(a: Automaton, all: &[u8; 4], marks: &[u8], moves: &[u8], seed: 
         let mut first = [0u8; compare::PAIRS];
         let mut other = [0u8; compare::PAIRS];
         let one = look(
+            rt,
             a,
             mode,
             all,
@@ -330,18 +348,18 @@ fn look_in_modes(a: Automaton, all: &[u8; 4], marks: &[u8], moves: &[u8], seed: 
             &mut settled[0..size],
             &mut first[0..pairs],
             &mut other[0..pairs],
-        );
+        )?;
         if one.beyond != 0 || one.broken != 0 {
-            return add(seen, one);
+            return Ok(add(seen, one));
         }
         seen = add(seen, one);
         mode += 1;
     }
-    seen
+    Ok(seen)
 }
 
 // Draws an automaton of up to 4 states and 2 letters, and looks at a table in each mode.
-fn draw(seed: u64) -> Seen {
+fn draw(rt: &impl Print, seed: u64) -> io::Result<Seen> {
     let states = 1 + (seed / 65536 % 4) as usize;
     let letters = 1 + (seed / 4096 % 2) as usize;
     let mut present = [0u8; compare::TRIPLES];
@@ -356,31 +374,31 @@ fn draw(seed: u64) -> Seen {
         start: 0,
     };
     let all = marks;
-    look_in_modes(a, &all, &marks[0..states], &moves[0..bytes], last)
+    look_in_modes(rt, a, &all, &marks[0..states], &moves[0..bytes], last)
 }
 
 // Looks at the tables of all automata drawn, up to the first that says what is not so.
-fn draw_all() -> Seen {
+fn draw_all(rt: &impl Print) -> io::Result<Seen> {
     let mut drawn = 362436069362436069;
     let mut seen = none();
     let mut count = 0;
     while count < DRAWN {
-        seen = add(seen, draw(drawn));
+        seen = add(seen, draw(rt, drawn)?);
         if seen.beyond != 0 || seen.broken != 0 {
-            return seen;
+            return Ok(seen);
         }
         drawn = compare::random(compare::random(drawn));
         count += 1;
     }
-    seen
+    Ok(seen)
 }
 
 // Prints what was seen of the tables.
-pub fn run() {
-    let seen = draw_all();
-    line(b"tables at rest", seen.tables);
-    line(b"of them not the least", seen.unlike);
-    line(b"ones that are not won", seen.beyond);
-    line(b"positions played from", seen.starts);
-    line(b"promises broken", seen.broken);
+pub fn run(rt: &impl Print) -> io::Result<()> {
+    let seen = draw_all(rt)?;
+    line(rt, b"tables at rest", seen.tables)?;
+    line(rt, b"of them not the least", seen.unlike)?;
+    line(rt, b"ones that are not won", seen.beyond)?;
+    line(rt, b"positions played from", seen.starts)?;
+    line(rt, b"promises broken", seen.broken)
 }

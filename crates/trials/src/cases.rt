@@ -2,6 +2,7 @@
 use super::told;
 use automaton::Automaton;
 use compare::{print, print_number};
+use std::io;
 
 // The number that `check` gives an automaton of so many states, none accepting, and letters, without moves.
 fn check_sizes(states: usize, letters: usize) -> usize {
@@ -35,12 +36,12 @@ fn lift_two(first: usize, then: usize) -> u32 {
 }
 
 // Prints a line with two numbers and the answer.
-fn show(words: &[u8], x: usize, y: usize, answer: usize) {
-    print(words);
-    print_number(x);
-    print_number(y);
-    print_number(answer);
-    print(b"\n");
+fn show(rt: &impl Print, words: &[u8], x: usize, y: usize, answer: usize) -> io::Result<()> {
+    print(rt, words)?;
+    print_number(rt, x)?;
+    print_number(rt, y)?;
+    print_number(rt, answer)?;
+    print(rt, b"\n")
 }
 
 // The place that `check` gives automaton A with so many marks, all of them 0, and 99 if it gives another number than 3.
@@ -93,20 +94,20 @@ fn merge_c(mode: usize, size: usize) -> usize {
 
 // Prints the cases: states, letters and the number of the check; states, marks and the place of refusal 3; the two positions lifted
 // and entry 15; mode, entries and the number of the quotient.
-pub fn run() {
-    show(b"check", 64, 1, check_sizes(64, 1));
-    show(b"check", 0, 1, check_sizes(0, 1));
-    show(b"check", 65, 1, check_sizes(65, 1));
-    show(b"check", 1, 16, check_sizes(1, 16));
-    show(b"check", 1, 17, check_sizes(1, 17));
-    show(b"marks", 2, 1, check_marks(1));
-    show(b"marks", 2, 3, check_marks(3));
-    show(b"lifts", 15, 6, lift_two(15, 6) as usize);
-    show(b"lifts", 6, 15, lift_two(6, 15) as usize);
-    show(b"merged", 0, 8, merge_c(0, 8));
-    show(b"merged", 1, 8, merge_c(1, 8));
-    show(b"merged", 2, 16, merge_c(2, 16));
-    show(b"merged", 3, 8, merge_c(3, 8));
-    show(b"merged", 1, 7, merge_c(1, 7));
-    show(b"merged", 3, 7, merge_c(3, 7));
+pub fn run(rt: &impl Print) -> io::Result<()> {
+    show(rt, b"check", 64, 1, check_sizes(64, 1))?;
+    show(rt, b"check", 0, 1, check_sizes(0, 1))?;
+    show(rt, b"check", 65, 1, check_sizes(65, 1))?;
+    show(rt, b"check", 1, 16, check_sizes(1, 16))?;
+    show(rt, b"check", 1, 17, check_sizes(1, 17))?;
+    show(rt, b"marks", 2, 1, check_marks(1))?;
+    show(rt, b"marks", 2, 3, check_marks(3))?;
+    show(rt, b"lifts", 15, 6, lift_two(15, 6) as usize)?;
+    show(rt, b"lifts", 6, 15, lift_two(6, 15) as usize)?;
+    show(rt, b"merged", 0, 8, merge_c(0, 8))?;
+    show(rt, b"merged", 1, 8, merge_c(1, 8))?;
+    show(rt, b"merged", 2, 16, merge_c(2, 16))?;
+    show(rt, b"merged", 3, 8, merge_c(3, 8))?;
+    show(rt, b"merged", 1, 7, merge_c(1, 7))?;
+    show(rt, b"merged", 3, 7, merge_c(3, 7))
 }

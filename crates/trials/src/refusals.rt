@@ -5,7 +5,7 @@ use super::told::Told;
 use super::{jobs, told};
 use automaton::Automaton;
 use compare::{line, print, print_number};
-use libc::STDOUT_FILENO;
+use std::io;
 
 // The number of calls, and of refusals.
 const CALLS: usize = 12;
@@ -30,20 +30,20 @@ struct Tried {
     kept: bool,
 }
 
-fn print_name(call: usize) {
+fn print_name(rt: &impl Print, call: usize) -> io::Result<()> {
     match call {
-        0 => print(b"limits"),
-        1 => print(b"check"),
-        2 => print(b"positions"),
-        3 => print(b"ceiling"),
-        4 => print(b"for_table"),
-        5 => print(b"clear"),
-        6 => print(b"settle"),
-        7 => print(b"lift"),
-        8 => print(b"rest"),
-        9 => print(b"relation"),
-        10 => print(b"reply"),
-        _ => print(b"quotient"),
+        0 => print(rt, b"limits"),
+        1 => print(rt, b"check"),
+        2 => print(rt, b"positions"),
+        3 => print(rt, b"ceiling"),
+        4 => print(rt, b"for_table"),
+        5 => print(rt, b"clear"),
+        6 => print(rt, b"settle"),
+        7 => print(rt, b"lift"),
+        8 => print(rt, b"rest"),
+        9 => print(rt, b"relation"),
+        10 => print(rt, b"reply"),
+        _ => print(rt, b"quotient"),
     }
 }
 
@@ -149,7 +149,7 @@ fn trial(call: usize, faults: Faults) -> Tried {
 
 // Prints what a call answered to the job with a refusal's fault, and with the later ones too if `later` says so:
 // 1 if it was refused and wrote something, else 0.
-fn print_trial(call: usize, number: usize, later: bool) -> u64 {
+fn print_trial(rt: &impl Print, call: usize, number: usize, later: bool) -> io::Result<u64> {
     let mut last = number;
     if later {
         last = REFUSALS;
@@ -162,43 +162,46 @@ fn print_trial(call: usize, number: usize, later: bool) -> u64 {
         },
     );
     let told = tried.told;
-    print_number(told.number);
-    print(b"@");
-    io::print_decimal(STDOUT_FILENO, told.place as u64);
+    let place = told.place;
+    print_number(rt, told.number)?;
+    print!(rt; "@{place}")?;
     if tried.kept {
-        return 0;
+        return Ok(0);
     }
-    1
+    Ok(1)
 }
 
 // Prints a call's row: how many times it was refused and wrote something.
-fn row(call: usize, later: bool) -> u64 {
+fn row(rt: &impl Print, call: usize, later: bool) -> io::Result<u64> {
     let mut written = 0;
     let mut number = 1;
-    print_name(call);
+    print_name(rt, call)?;
     while number <= REFUSALS {
-        written = compare::more(written, print_trial(call, number, later));
+        written = compare::more(written, print_trial(rt, call, number, later)?);
         number += 1;
     }
-    print(b"\n");
-    written
+    print(rt, b"\n")?;
+    Ok(written)
 }
 
 // Prints the rows of all calls.
-fn rows(later: bool) -> u64 {
+fn rows(rt: &impl Print, later: bool) -> io::Result<u64> {
     let mut written = 0;
     let mut call = 0;
     while call < CALLS {
-        written = compare::more(written, row(call, later));
+        written = compare::more(written, row(rt, call, later)?);
         call += 1;
     }
-    written
+    Ok(written)
 }
 
-pub fn run() {
-    print(b"refusals, number and place: each fault alone\n");
-    let alone = rows(false);
-    print(b"refusals, number and place: each fault with all later ones\n");
-    let later = rows(true);
-    line(b"refused calls that wrote", compare::more(alone, later));
+pub fn run(rt: &impl Print) -> io::Result<()> {
+    print(rt, b"refusals, number and place: each fault alone\n")?;
+    let alone = rows(rt, false)?;
+    print(
+        rt,
+        b"refusals, number and place: each fault with all later ones\n",
+    )?;
+    let later = rows(rt, true)?;
+    line(rt, b"refused calls that wrote", compare::more(alone, later))
 }

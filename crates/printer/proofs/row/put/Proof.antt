@@ -1,4 +1,4 @@
--- `lines::put` meets its contract: the fields left and the newline, put from here on, end and lie where the whole line does.
+-- `row::put` meets its contract: the fields left and the newline, put from here on, end and lie where the whole line does.
 use mathlib.Core.Path.{◌≡◌, refl}
 use mathlib.Core.List.{List, [], ◌∷◌, ◌++◌, append_assoc}
 use Prim.Native.Nat.{ℕ, ◌+◌, ◌-◌, ◌≤◌, ◌<◌}
@@ -10,8 +10,8 @@ use Rattle.fields.specs.Bytes.{newline, tab}
 use Rattle.fields.specs.Numbers.{shown}
 use Rattle.printer.specs.Printed.{line, tabbed}
 use Rattle.printer.proofs.Left.{Left, left-all, left-next, left_then, left-none}
-use Rattle.printer.proofs.lines.put.Statement.{statement}
-use Rattle.printer.proofs.lines.put.Tie as tie
+use Rattle.printer.proofs.row.put.Statement.{statement}
+use Rattle.printer.proofs.row.put.Tie as tie
 
 -- the fields from i on, and the newline
 abbrev rest : (values : List ℕ) → ℕ → List ℕ
