@@ -1,7 +1,7 @@
 /* Reduces the queue controller of examples/queue.txt by delayed simulation. From the repository's root:
  *
- *     (cd crates/capi && rt lib)
- *     cc -std=c99 -O2 -Iinclude examples/reduce.c crates/capi/out/libcapi.a -o target/reduce
+ *     tools/library.sh
+ *     cc -std=c99 -O2 -Iinclude examples/reduce.c target/staticlib/libcapi.a -o target/reduce
  *
  * Then target/reduce prints examples/reduce.out.
  */

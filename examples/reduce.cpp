@@ -1,7 +1,7 @@
 // Reduces the queue controller of examples/queue.txt by delayed simulation. From the repository's root:
 //
-//     (cd crates/capi && rt lib)
-//     c++ -std=c++11 -O2 -Iinclude examples/reduce.cpp crates/capi/out/libcapi.a -o target/reduce++
+//     tools/library.sh
+//     c++ -std=c++11 -O2 -Iinclude examples/reduce.cpp target/staticlib/libcapi.a -o target/reduce++
 //
 // Then target/reduce++ prints examples/reduce.out.
 #include <cstdint>

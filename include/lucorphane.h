@@ -1,6 +1,6 @@
 /* lucorphane.h: simulation games on a Buechi automaton, and its quotient. C99 and C++.
  *
- * `rt lib` in crates/capi writes the library, crates/capi/out/libcapi.a, for x86-64 Linux; it needs nothing beside C's
+ * tools/library.sh writes the library, target/staticlib/libcapi.a, for x86-64 Linux; it needs nothing beside C's
  * memset. What each function does is proved for every argument; that this text says the same is by reading. No number is
  * cut to fewer bits before it is looked at: a start of 2^40 is refused with 4, and a mode of 256 with 8.
  *

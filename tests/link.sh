@@ -1,6 +1,6 @@
 #!/bin/sh
 # Builds the C library, links the C and C++ examples and the Rust comparison with it, and runs all three. What is not
-# proved yet is proved first. The library lies in crates/capi/out/, all else that is built in target/. Exit status 0 or 1.
+# proved yet is proved first. Everything that is built lies in target/. Exit status 0 or 1.
 cd "$(dirname "$0")/.." || exit 1
 
 fail() {
@@ -9,10 +9,10 @@ fail() {
 }
 
 mkdir -p target
-(cd crates/capi && rt lib) >target/link.log 2>&1 || { cat target/link.log; fail "the library is not built"; }
+tools/library.sh >target/link.log 2>&1 || { cat target/link.log; fail "the library is not built"; }
 
 strict="-O2 -Wall -Wextra -Werror -pedantic -Iinclude"
-library=crates/capi/out/libcapi.a
+library=target/staticlib/libcapi.a
 cc -std=c99 $strict examples/reduce.c $library -o target/reduce || fail "reduce.c does not compile"
 c++ -std=c++11 $strict examples/reduce.cpp $library -o target/reduce++ || fail "reduce.cpp does not compile"
 for program in reduce reduce++; do

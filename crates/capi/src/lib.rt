@@ -1,5 +1,5 @@
-// The calls for C and C++, as include/lucorphane.h declares them. Each exported function makes one call and gives its answer
-// in numbers; nothing is decided here.
+// The calls for C and C++, as include/lucorphane.h declares them. Each function makes one call and gives its answer in
+// numbers; nothing is decided here. `capi_c` exports them.
 #![tactic(auto)]
 
 mod answers; // answers.rt: the answer of each call as numbers
@@ -36,7 +36,6 @@ fn automaton(n: u64, k: u64, start: u64) -> Automaton
 }
 
 // `automaton::check`
-#[unsafe(no_mangle)]
 pub extern "C" fn lucorphane_check(
     n: u64,
     k: u64,
@@ -50,7 +49,6 @@ pub extern "C" fn lucorphane_check(
 }
 
 // `arena::positions`, which asks for no start
-#[unsafe(no_mangle)]
 pub extern "C" fn lucorphane_positions(n: u64, k: u64, mode: u64) -> Answer
     ensures { given result ≡ sizing (automaton_of n k 0) mode }
 {
@@ -58,7 +56,6 @@ pub extern "C" fn lucorphane_positions(n: u64, k: u64, mode: u64) -> Answer
 }
 
 // `arena::ceiling`
-#[unsafe(no_mangle)]
 pub extern "C" fn lucorphane_ceiling(
     n: u64,
     k: u64,
@@ -73,7 +70,6 @@ pub extern "C" fn lucorphane_ceiling(
 }
 
 // `table::clear`
-#[unsafe(no_mangle)]
 pub extern "C" fn lucorphane_clear(
     n: u64,
     k: u64,
@@ -90,7 +86,6 @@ pub extern "C" fn lucorphane_clear(
 }
 
 // `table::lift`
-#[unsafe(no_mangle)]
 pub extern "C" fn lucorphane_lift(
     n: u64,
     k: u64,
@@ -115,7 +110,6 @@ pub extern "C" fn lucorphane_lift(
 }
 
 // `table::settle`
-#[unsafe(no_mangle)]
 pub extern "C" fn lucorphane_settle(
     n: u64,
     k: u64,
@@ -132,7 +126,6 @@ pub extern "C" fn lucorphane_settle(
 }
 
 // `table::rest`
-#[unsafe(no_mangle)]
 pub extern "C" fn lucorphane_rest(
     n: u64,
     k: u64,
@@ -148,7 +141,6 @@ pub extern "C" fn lucorphane_rest(
 }
 
 // `relation::relation`
-#[unsafe(no_mangle)]
 pub extern "C" fn lucorphane_relation(
     n: u64,
     k: u64,
@@ -173,7 +165,6 @@ pub extern "C" fn lucorphane_relation(
 }
 
 // `relation::reply`
-#[unsafe(no_mangle)]
 pub extern "C" fn lucorphane_reply(
     n: u64,
     k: u64,
@@ -197,7 +188,6 @@ pub extern "C" fn lucorphane_reply(
 }
 
 // `quotient::quotient`
-#[unsafe(no_mangle)]
 pub extern "C" fn lucorphane_quotient(
     n: u64,
     k: u64,
