@@ -1,5 +1,5 @@
 -- `asks::asked::asked` meets its contract: the parts that the code divides out of v are those of its position, and they are in range.
-use mathlib.Core.Path.{◌≡◌, sym, ap, ◌∙◌, subst}
+use mathlib.Core.Path.{◌≡◌, sym, ap, ◌∙◌}
 use Prim.Native.Nat.{ℕ, ◌-◌, ◌≤◌}
 use native.Mathlib.Omega.{arith}
 use Rattle.automaton.specs.Board.{Board}
@@ -19,7 +19,7 @@ duplicator_asks-requires c =
     λ h.
     let e = c.requires.ready.paired in
     rw e (duplicators_turn board c.args.g.mode c.args.v (omega (arith, e))) in
-    record { ready = c.requires.ready; indexed = c.requires.indexed; b_bound = subst (Fits board c.args.g.mode) (duplicators c.if-v-pairs.false) fits }
+    record { ready = c.requires.ready; indexed = c.requires.indexed; b_bound = rw (duplicators c.if-v-pairs.false) at fits }
 
 pub returns : goal.returns
 returns c =
