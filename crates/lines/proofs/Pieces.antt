@@ -9,7 +9,7 @@ use borrow.Author.Tests.{ne_eqb, lt-ltb, le-ltb}
 use lib.Dec.{eqb, ltb}
 use lib.ListN.{length, take, drop, length-take, length-drop, drop_of_length-le}
 use lib.Seq.{drop-cons, drop-drop, take-length}
-use Rattle.bytes.specs.Bytes.{slice, index_after, index_of}
+use Rattle.lines.specs.Search.{slice, index_after, index_of}
 use Rattle.fields.proofs.Tests.{by_test}
 use Rattle.fields.specs.Bytes.{newline}
 use Rattle.lines.specs.declared.line.Line.{Line}

@@ -1,7 +1,7 @@
 -- The line from a place of a text on, and the place past it.
 -- The functions of `reader` promise it to those above them; the promise of `text::read` does not cite it.
 use Rattle.std.specs.Prelude.{cond, List, ℕ, suc, ◌+◌, ltb, length, take, drop}
-use Rattle.bytes.specs.Bytes.{index_of}
+use Rattle.lines.specs.Search.{index_of}
 use Rattle.fields.specs.Bytes.{newline}
 use Rattle.lines.specs.declared.line.Line.TheVariants as line
 use Rattle.lines.specs.declared.reader.Read.{Read}

@@ -4,3 +4,4 @@
 
 pub mod line; // line.rt: one line and what it says
 pub mod reader; // reader.rt: the text and the place to which it is read
+mod scan; // scan.rt: where a byte stands

@@ -2,6 +2,7 @@
 ghost use Rattle.std.specs.Prelude.{◌≡◌};
 ghost use Rattle.lines.specs.Lines.{word_of, one, triple as triple-of, three, line_of};
 
+use super::scan;
 use fields::Number;
 
 // The word that a line begins with.
@@ -35,22 +36,22 @@ pub enum Line {
 pub fn read(line: &[u8]) -> Line
     ensures { result ≡ line_of line.now }
 {
-    let a = bytes::scan::find(line, 0, line.len(), fields::TAB);
+    let a = scan::find(line, 0, line.len(), fields::TAB);
     if line.len() <= a {
         return Line::Wrong;
     }
     let w = word_of(&line[0..a]);
-    let b = bytes::scan::find(line, a + 1, line.len(), fields::TAB);
+    let b = scan::find(line, a + 1, line.len(), fields::TAB);
     let x = fields::read_number(&line[a + 1..b]);
     if line.len() <= b {
         return with_one(w, x);
     }
-    let c = bytes::scan::find(line, b + 1, line.len(), fields::TAB);
+    let c = scan::find(line, b + 1, line.len(), fields::TAB);
     let y = fields::read_number(&line[b + 1..c]);
     if line.len() <= c {
         return Line::Wrong;
     }
-    let d = bytes::scan::find(line, c + 1, line.len(), fields::TAB);
+    let d = scan::find(line, c + 1, line.len(), fields::TAB);
     let z = fields::read_number(&line[c + 1..d]);
     if d < line.len() {
         return Line::Wrong;

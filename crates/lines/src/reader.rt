@@ -2,8 +2,8 @@
 ghost use Rattle.std.specs.Prelude.{◌≡◌};
 ghost use Rattle.lines.specs.Reader.{read_at};
 
-use super::line;
 use super::line::Line;
+use super::{line, scan};
 
 // A line, and the place past it.
 #[derive(Clone, Copy)]
@@ -22,7 +22,7 @@ fn read_at(text: &[u8], at: usize) -> Read
             past: text.len(),
         };
     }
-    let end = bytes::scan::find(text, at, text.len(), fields::NEWLINE);
+    let end = scan::find(text, at, text.len(), fields::NEWLINE);
     if text.len() <= end {
         return Read {
             line: Line::Wrong,
