@@ -37,7 +37,7 @@ module _ (q a r : ℕ) where
       go true d x more = (e, Memᴰ.head refl, (leads_by-is e).0 d)
       go false d x more = let (f, m, l) = more x in (f, Memᴰ.tail m, l)
 
-  leads-by : {es : List Edge} {e : Edge} → Memᴰ e es → leads_by e q a r ≡ true → leads es q a r ≡ true
+  leads-by : {e : Edge} {es : List Edge} → Memᴰ e es → leads_by e q a r ≡ true → leads es q a r ≡ true
   unfolding leads
   leads-by (Memᴰ.head d) h = simp (subst (λ (x : Edge). leads_by x q a r ≡ true) d h)
   leads-by (Memᴰ.tail {x = f} m) h = ap (λ (b : Bool). leads_by f q a r || b) (leads-by m h) ∙ or-true (leads_by f q a r)

@@ -108,7 +108,7 @@ fn finish(
 ) -> Reading
     requires { (length sheet.now ≡ 65536) × (length seen.now ≡ most_triples) }
     ensures result_value { of_reading result ≡ (finishing limits a (marks_of sheet.now a.states) (moves_of a seen.now) (lent_of marks.old moves.old)).answer }
-    ensures moves_after { lent_of marks.new moves.new ≡ (finishing limits a (marks_of sheet.now a.states) (moves_of a seen.now) (lent_of marks.old moves.old)).left }
+    ensures buffers_after { lent_of marks.new moves.new ≡ (finishing limits a (marks_of sheet.now a.states) (moves_of a seen.now) (lent_of marks.old moves.old)).left }
 {
     let judged = judge(a, limits);
     match judged {
@@ -150,10 +150,10 @@ fn judge(a: Automaton, limits: Limits) -> Checked
 
 // Writes the marks and the moves, if there is room for them.
 fn write(a: Automaton, sheet: &[u8], seen: &[u8], marks: &mut [u8], moves: &mut [u8]) -> Reading
-    requires states_nonzero { (0 < a.states) × (a.states ≤ most_states) × (0 < a.letters) × (a.letters ≤ most_letters) }
+    requires within_limits { (0 < a.states) × (a.states ≤ most_states) × (0 < a.letters) × (a.letters ≤ most_letters) }
     requires sheet_len { (length sheet.now ≡ 65536) × (length seen.now ≡ most_triples) }
     ensures result_value { of_reading result ≡ (writing a (marks_of sheet.now a.states) (moves_of a seen.now) (lent_of marks.old moves.old)).answer }
-    ensures moves_after { lent_of marks.new moves.new ≡ (writing a (marks_of sheet.now a.states) (moves_of a seen.now) (lent_of marks.old moves.old)).left }
+    ensures buffers_after { lent_of marks.new moves.new ≡ (writing a (marks_of sheet.now a.states) (moves_of a seen.now) (lent_of marks.old moves.old)).left }
 {
     let states = a.states;
     let letters = a.letters;
