@@ -23,7 +23,7 @@ answer_layer-count-requires c =
     let below : c.loop-b.b < layers c.args.g.mode = omega (arith, c.loop-b-test.true, c.layers_of-layers.ensures) in
     let F = c.requires.ready.formed in
     let b = below in
-    record { prepared = prepared_again c.args.g c.args.marks.now c.args.moves.now c.args.acc c.args.into.now c.args.onto.now c.args.risen.now c.args.rows.now c.args.olds.now (first) (here) c.loop-b.invariant.1.part (prepared); b_bound = b; layer_stirred = λ q h. stirred_again c.loop-b.invariant.1.part F c.args.risen.now c.args.rows.now c.args.olds.now c.loop-b.b q b h (λ r a hr ha. c.requires.all_stirred c.loop-b.b q r a b h hr ha) }
+    record { prepared = prepared_again c.args.g c.args.marks.now c.args.moves.now c.args.acc c.args.into.now c.args.onto.now c.args.risen.now c.args.rows.now c.args.olds.now first here c.loop-b.invariant.1.part prepared; b_bound = b; layer_stirred = λ q h. stirred_again c.loop-b.invariant.1.part F c.args.risen.now c.args.rows.now c.args.olds.now c.loop-b.b q b h (λ r a hr ha. c.requires.all_stirred c.loop-b.b q r a b h hr ha) }
 
 pub overflow_add-count : goal.overflow_add-count
 overflow_add-count c =
@@ -36,7 +36,7 @@ loop-b-preserved c =
     let below : c.loop-b.b < layers c.args.g.mode = omega (arith, c.loop-b-test.true, c.layers_of-layers.ensures) in
     let o = c.requires.ready in (
       omega (arith, c.loop-b-test.true),
-      half_more (board) c.args.g.mode o.formed o.entries (below) c.loop-b.invariant.1 c.answer_layer-count.ensures.answered_in c.answer_layer-count.ensures.layer_still,
+      half_more board c.args.g.mode o.formed o.entries below c.loop-b.invariant.1 c.answer_layer-count.ensures.answered_in c.answer_layer-count.ensures.layer_still,
     )
 
 pub returns : goal.returns
@@ -46,4 +46,4 @@ returns c =
     let here : Growing = growing c.loop-b.table c.loop-b.grown c.loop-b.columns in
     let o = c.requires.ready in
     let past : c.loop-b.b ≡ layers c.args.g.mode = omega (arith, c.loop-b-test.false, c.layers_of-layers.ensures, c.loop-b.invariant.0) in
-    record { halved = half_done (board) c.args.g.mode o.formed c.args.g.pairs o.paired o.entries (subst (λ (b : ℕ). Half (board) c.args.g.mode (first) (here) b c.loop-b.count) past c.loop-b.invariant.1); answered_in = c.loop-b.invariant.1.part }
+    record { halved = half_done board c.args.g.mode o.formed c.args.g.pairs o.paired o.entries (subst (λ (b : ℕ). Half board c.args.g.mode first here b c.loop-b.count) past c.loop-b.invariant.1); answered_in = c.loop-b.invariant.1.part }

@@ -2,6 +2,7 @@
 use mathlib.Core.Path.{◌≡◌, sym, ap, ◌∙◌}
 use mathlib.Core.List.{List}
 use Prim.Native.Nat.{ℕ, ◌≤◌}
+use native.Mathlib.Omega.{arith}
 use lib.ListN.{take, drop}
 use borrow.Author.Tests.{lt-ltb, le-ltb, le-leb, lt-leb}
 use Rattle.automaton.specs.declared.Automaton.{Automaton}
@@ -54,10 +55,10 @@ returns-then-most_states-states c =
 
 pub returns-then-states-start : goal.returns-then-states-start
 returns-then-states-start c =
-    (simp (le-leb _ _ c.if-states-start.true))
+    (simp (le-leb c.args.a.states c.args.a.start (omega arith)))
     ∙ past-program-limits c.args.limits c.args.a c.if-most_states-states.false c.if-most_letters-letters.false (past-limits c.args.limits c.args.a c.in-Sound.is c.limits-limited.ensures)
 
 pub returns : goal.returns
 returns c =
-    (simp (lt-leb _ _ c.if-states-start.false))
+    (simp (lt-leb c.args.a.states c.args.a.start (omega arith)))
     ∙ past-program-limits c.args.limits c.args.a c.if-most_states-states.false c.if-most_letters-letters.false (past-limits c.args.limits c.args.a c.in-Sound.is c.limits-limited.ensures)

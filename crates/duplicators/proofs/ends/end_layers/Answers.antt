@@ -22,6 +22,6 @@ loop-b-preserved c =
     let board : Board = board_in c.args.g c.args.marks.now c.args.moves.now in
     let below : c.loop-b.b < layers c.args.g.mode = omega (arith, c.loop-b-test.true, c.layers_of-layers.ensures) in (
       omega (arith, below),
-      ended-more (board) c.args.g.mode c.args.found.now c.requires.ready.formed c.requires.letters_in_bounds.1 c.end_layer-count.ensures.answered_in c.requires.ready.entries (below)
+      ended-more board c.args.g.mode c.args.found.now c.requires.ready.formed c.requires.letters_in_bounds.1 c.end_layer-count.ensures.answered_in c.requires.ready.entries below
           c.loop-b.invariant.1 c.end_layer-count.ensures.layer_found,
     )

@@ -20,6 +20,6 @@ loop-a-preserved c =
     let board : Board = board_in c.args.g c.args.marks.now c.args.moves.now in
     let o = c.requires.working in (
       omega (arith, c.loop-a-test.true),
-      letters-more (board) c.args.g.mode c.args.w.b c.args.w.q c.args.found.now o.ready.formed o.ready.entries o.rowed.bit o.rowed.red c.loop-a-test.true c.requires.letters_in_bounds.1
+      letters-more board c.args.g.mode c.args.w.b c.args.w.q c.args.found.now o.ready.formed o.ready.entries o.rowed.bit o.rowed.red c.loop-a-test.true c.requires.letters_in_bounds.1
           c.loop-a.invariant.1 c.scan_letter-count.ensures.answered_in c.scan_letter-count.ensures.letter_still,
     )

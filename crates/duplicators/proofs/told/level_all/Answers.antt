@@ -17,7 +17,7 @@ level_letter-raised-requires c =
     let here : Growing = growing c.loop-a.table c.loop-a.grown c.loop-a.columns in
     let o = c.requires.working in
     record {
-      working = working_again c.args.g c.args.marks.now c.args.moves.now c.args.w (first) (here) c.loop-a.invariant.1.part c.requires.working;
+      working = working_again c.args.g c.args.marks.now c.args.moves.now c.args.w first here c.loop-a.invariant.1.part c.requires.working;
       a_lt_letters = (c.loop-a-test.true, c.requires.letters_in_bounds.1 _ c.loop-a-test.true);
       letters_in_bounds = c.requires.letters_in_bounds_2;
       count_in_bounds = c.requires.count_in_bounds;
@@ -35,6 +35,6 @@ loop-a-preserved c =
     let board : Board = board_in c.args.g c.args.marks.now c.args.moves.now in
     let o = c.requires.working in (
       omega (arith, c.loop-a-test.true),
-      letters-more (board) c.args.g.mode c.args.w.b c.args.w.q c.args.found.now o.ready.formed o.ready.entries o.rowed.bit o.rowed.red c.loop-a-test.true c.requires.letters_in_bounds.1
+      letters-more board c.args.g.mode c.args.w.b c.args.w.q c.args.found.now o.ready.formed o.ready.entries o.rowed.bit o.rowed.red c.loop-a-test.true c.requires.letters_in_bounds.1
           c.loop-a.invariant.1 c.level_letter-raised.ensures.answered_in c.level_letter-raised.ensures.letter_still,
     )
