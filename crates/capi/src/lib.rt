@@ -36,27 +36,21 @@ fn automaton(n: u64, k: u64, start: u64) -> Automaton
 }
 
 // `automaton::check`
-pub extern "C" fn lucorphane_check(
-    n: u64,
-    k: u64,
-    start: u64,
-    accept: &[u8],
-    moves: &[u8],
-) -> Answer
+pub fn lucorphane_check(n: u64, k: u64, start: u64, accept: &[u8], moves: &[u8]) -> Answer
     ensures { given result ≡ checked (board_of (automaton_of n k start) accept.now moves.now) start }
 {
     answers::of_checked(automaton::check(automaton(n, k, start), accept, moves))
 }
 
 // `arena::positions`, which asks for no start
-pub extern "C" fn lucorphane_positions(n: u64, k: u64, mode: u64) -> Answer
+pub fn lucorphane_positions(n: u64, k: u64, mode: u64) -> Answer
     ensures { given result ≡ sizing (automaton_of n k 0) mode }
 {
     answers::of_counted(arena::positions(automaton(n, k, 0), mode as usize))
 }
 
 // `arena::ceiling`
-pub extern "C" fn lucorphane_ceiling(
+pub fn lucorphane_ceiling(
     n: u64,
     k: u64,
     start: u64,
@@ -70,7 +64,7 @@ pub extern "C" fn lucorphane_ceiling(
 }
 
 // `table::clear`
-pub extern "C" fn lucorphane_clear(
+pub fn lucorphane_clear(
     n: u64,
     k: u64,
     start: u64,
@@ -86,7 +80,7 @@ pub extern "C" fn lucorphane_clear(
 }
 
 // `table::lift`
-pub extern "C" fn lucorphane_lift(
+pub fn lucorphane_lift(
     n: u64,
     k: u64,
     start: u64,
@@ -110,7 +104,7 @@ pub extern "C" fn lucorphane_lift(
 }
 
 // `table::settle`
-pub extern "C" fn lucorphane_settle(
+pub fn lucorphane_settle(
     n: u64,
     k: u64,
     start: u64,
@@ -126,7 +120,7 @@ pub extern "C" fn lucorphane_settle(
 }
 
 // `table::rest`
-pub extern "C" fn lucorphane_rest(
+pub fn lucorphane_rest(
     n: u64,
     k: u64,
     start: u64,
@@ -141,7 +135,7 @@ pub extern "C" fn lucorphane_rest(
 }
 
 // `relation::relation`
-pub extern "C" fn lucorphane_relation(
+pub fn lucorphane_relation(
     n: u64,
     k: u64,
     start: u64,
@@ -165,7 +159,7 @@ pub extern "C" fn lucorphane_relation(
 }
 
 // `relation::reply`
-pub extern "C" fn lucorphane_reply(
+pub fn lucorphane_reply(
     n: u64,
     k: u64,
     start: u64,
@@ -188,7 +182,7 @@ pub extern "C" fn lucorphane_reply(
 }
 
 // `quotient::quotient`
-pub extern "C" fn lucorphane_quotient(
+pub fn lucorphane_quotient(
     n: u64,
     k: u64,
     start: u64,
