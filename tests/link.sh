@@ -1,6 +1,6 @@
 #!/bin/sh
 # Builds the C library, links the C and C++ examples and the Rust comparison with it, and runs all three. What is not
-# proved yet is proved first. Everything that is built lies in target/. Exit status 0 or 1.
+# proved yet is proved first. What is built lies in target/, and in crates/*/out/. Exit status 0 or 1.
 cd "$(dirname "$0")/.." || exit 1
 
 fail() {

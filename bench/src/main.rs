@@ -59,7 +59,7 @@ fn print_notes(caps: Caps) {
     println!(
         "# Performance
 
-`cargo run --release -- {arguments}` in `bench/`, after `rt lib` in `crates/capi/`. Processor: {processor}, one thread.
+`cargo run --release -- {arguments}` in `bench/`, after `tools/library.sh`. Processor: {processor}, one thread.
 
 Times are seconds of the thread's processor time: the best of three under a second, one run above. Ratio is the library's time by Figure 2's. Each builds from the automaton's bytes what it needs, within the time. The library also checks the automaton, and its table is lent; the others trust the automaton and allocate their table.
 

@@ -16,7 +16,7 @@ use Rattle.bodies.specs.declared.Due.{Due}
 use Rattle.bodies.specs.declared.Due.TheVariants as due
 use Rattle.bodies.specs.declared.Next.{Next}
 use Rattle.bodies.specs.declared.Next.TheVariants as next
-use Rattle.bodies.specs.Body.{Edge, listed, accepting, unlisted, Name, no_name, name, Marks, no_marks, empty, marked, IsEdge, edge as is-edge, Edges, no_edge, edges, Blocks, no_block, block}
+use Rattle.bodies.specs.Body.{Edge, listed, accepting, unlisted, Name, no_name, name, Marks, no_marks, empty, marked, IsEdge, edge as is_edge, Edges, no_edge, edges, Blocks, no_block, block}
 use Rattle.bodies.specs.Stands.{only, block_next, edges_next, signed_next, braces_next, step}
 use Rattle.bodies.specs.Walk.{Outcome, held, Led, led, Walk, goes, lists, marks, edge, astray, over, stuck}
 
@@ -156,7 +156,7 @@ module _ (T : ℕ → Token) (n p : ℕ) (t : List ℕ) (gs : List Edge) where
 
     -- an edge with its `[`
     begun : {q j : ℕ} {e : Edge} → (T i).sort ≡ sort.label → Led T n p q (T i).next e j → IsEdge T n p q i e j
-    begun x (led l v r) = is-edge (x, refl) l v r
+    begun x (led l v r) = is_edge (x, refl) l v r
 
     edges_found : (q : ℕ) → Behind (edges_next q (T i)) → Edging q s es i
     edges_found q a =

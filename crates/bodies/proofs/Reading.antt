@@ -13,7 +13,7 @@ use Rattle.tokens.specs.Sorts as sort
 use Rattle.bodies.specs.declared.Due.{Due}
 use Rattle.bodies.specs.declared.Due.TheVariants as due
 use Rattle.bodies.specs.declared.Next.TheVariants as next
-use Rattle.bodies.specs.Body.{Edge, listed, accepting, Name, no_name, name, Marks, no_marks, empty, marked, edge as is-edge, Edges, no_edge, edges, Blocks, no_block, block}
+use Rattle.bodies.specs.Body.{Edge, listed, accepting, Name, no_name, name, Marks, no_marks, empty, marked, edge as is_edge, Edges, no_edge, edges, Blocks, no_block, block}
 use Rattle.bodies.specs.Stands.{block_next, edges_next, signed_next, step}
 use Rattle.bodies.specs.Walk.{Outcome, led, Walk, goes, lists, marks, edge}
 
@@ -55,7 +55,7 @@ module _ (T : ℕ → Token) (n p : ℕ) {o : Outcome} where
 
   edges-read : {q i j : ℕ} {s : List ℕ} {es fs : List Edge} → Edges T n p q es i fs j → ((d : Due) → Opens n q d → Walk T n p d s fs j o) → (d : Due) → Opens n q d → Walk T n p d s es i o
   edges-read no_edge k d b = k d b
-  edges-read {q = q} {i = i} {s = s} (edges (is-edge h l x r) es) k d b =
+  edges-read {q = q} {i = i} {s = s} (edges (is_edge h l x r) es) k d b =
       edge {q = q} (b (get_or s (T i).value 0) (T i) (λ e. omega (arith, h.0)) (λ e. omega (arith, h.0)) ∙ simp h.0) h.1 (led l x r) (edges-read es k (due.Edges q) (edges-opens n q))
 
   module _ (q : ℕ) (s : List ℕ) {es : List Edge} where

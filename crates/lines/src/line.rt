@@ -1,6 +1,6 @@
 // One line of the text: its fields, and what they say.
 ghost use Rattle.std.specs.Prelude.{◌≡◌};
-ghost use Rattle.lines.specs.Lines.{word_of, one, triple as triple-of, three, line_of};
+ghost use Rattle.lines.specs.Lines.{word_of, one, triple as triple_of, three, line_of};
 
 use super::scan;
 use fields::Number;
@@ -99,7 +99,7 @@ fn with_one(w: Word, x: Number) -> Line
 }
 
 fn triple(x: Number, y: Number, z: Number) -> Three
-    ensures { result ≡ triple-of x y z }
+    ensures { result ≡ triple_of x y z }
 {
     match x {
         Number::Is(a) => match y {

@@ -2,7 +2,7 @@
 ghost use Rattle.std.specs.Prelude.{◌≡◌, length, replicate, ◌≤◌};
 ghost use Rattle.fields.specs.Bytes.{laid, stop};
 ghost use Rattle.lines.specs.Lines.{lines_of};
-ghost use Rattle.text.specs.Text.{accepts, accepts_in, marked, marks as marks-of, moves as Moves-of, moves_in};
+ghost use Rattle.text.specs.Text.{accepts, accepts_in, marked, marks as marks_of, moves as moves_of, moves_in};
 ghost use Rattle.text.specs.Calls.{before};
 ghost use Rattle.text.specs.Fill.{bytes};
 
@@ -12,8 +12,8 @@ use lines::reader;
 // Writes the marks of all states and the moves of a text.
 pub fn write(text: &[u8], states: usize, marks: &mut [u8], moves: &mut [u8])
     requires { states ≤ length marks.old }
-    ensures marks_after { marks.new ≡ before (marks-of states (lines_of text.now)) marks.old }
-    ensures moves_after { moves.new ≡ laid 0 (bytes (Moves-of (lines_of text.now))) moves.old }
+    ensures marks_after { marks.new ≡ before (marks_of states (lines_of text.now)) marks.old }
+    ensures moves_after { moves.new ≡ laid 0 (bytes (moves_of (lines_of text.now))) moves.old }
 {
     clear(&mut marks[0..states]);
     fill(text, &mut marks[0..states], moves);
@@ -33,7 +33,7 @@ fn clear(marks: &mut [u8])
 // Marks the states that accept lines name, and puts the moves one after another.
 fn fill(text: &[u8], marks: &mut [u8], moves: &mut [u8])
     ensures marks_after { marks.new ≡ marked (accepts (lines_of text.now)) marks.old }
-    ensures moves_after { moves.new ≡ laid 0 (bytes (Moves-of (lines_of text.now))) moves.old }
+    ensures moves_after { moves.new ≡ laid 0 (bytes (moves_of (lines_of text.now))) moves.old }
 {
     let mut at = 0;
     let mut to = 0;

@@ -1,8 +1,8 @@
 // What the lines of a text say, taken line by line: its numbers, and the first faults among its accept and move lines.
 ghost use Rattle.std.specs.Prelude.{◌≡◌, ◌≤◌, length};
 ghost use Rattle.lines.specs.Lines.{lines_of};
-ghost use Rattle.text.specs.Order.{order as order-of, repeats as repeats-of, stands as Stands-of};
-ghost use Rattle.text.specs.Survey.{Few, most, reached as reached-of, accepted_by, moved_by, taken, surveyed, blank as blank_of};
+ghost use Rattle.text.specs.Order.{order as order_of, repeats as repeats_of, stands as stands_of};
+ghost use Rattle.text.specs.Survey.{Few, most, reached as reached_of, accepted_by, moved_by, taken, surveyed, blank as blank_of};
 
 use lines::line::Line;
 use lines::reader;
@@ -81,7 +81,7 @@ fn blank() -> Survey
 
 // A line's rank in the order of the kinds, 0 for one of wrong form.
 fn order(line: Line) -> usize
-    ensures { result ≡ order-of line }
+    ensures { result ≡ order_of line }
 {
     match line {
         Line::Automaton(_, _, _) => 1,
@@ -94,7 +94,7 @@ fn order(line: Line) -> usize
 
 // May a line of this kind follow another of its kind?
 fn repeats(line: Line) -> bool
-    ensures { result ≡ repeats-of line }
+    ensures { result ≡ repeats_of line }
 {
     match line {
         Line::Automaton(_, _, _) => false,
@@ -107,7 +107,7 @@ fn repeats(line: Line) -> bool
 
 // May the line stand after one of this rank? 0 is the rank before the first.
 fn stands(before: usize, line: Line) -> bool
-    ensures { result ≡ Stands-of before line }
+    ensures { result ≡ stands_of before line }
 {
     let rank = order(line);
     if before == 0 {
@@ -178,7 +178,7 @@ fn with_move(known: Survey, from: usize, letter: usize, to: usize) -> Survey
 // How many lines come before the first at fault, when one more is fine or not.
 fn reached(first: usize, count: usize, fine: bool) -> usize
     requires { count ≤ most }
-    ensures { result ≡ reached-of first count fine }
+    ensures { result ≡ reached_of first count fine }
 {
     if first == count && fine {
         return count + 1;

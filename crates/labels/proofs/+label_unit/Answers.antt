@@ -12,7 +12,7 @@ use Rattle.tokens.specs.Sorts as sort
 use Rattle.tokens.specs.Tokens.{token_from}
 use Rattle.labels.specs.declared.Lettered.{Lettered}
 use Rattle.labels.specs.declared.Lettered.TheVariants.{Letters, Refused}
-use Rattle.labels.specs.Label.{unit as Unit-level, whole as Whole-level}
+use Rattle.labels.specs.Label.{unit as unit_level, whole as whole_level}
 use Rattle.labels.specs.Parts.{Found, Reading, Nots, turned_of, ended_of}
 use Rattle.labels.proofs.Walk.{pushes}
 use Rattle.labels.proofs.Reach.{next-on, is-on, reading-inside}
@@ -27,19 +27,19 @@ label-loop-refusal-init t c = (c.requires.0, going_starts)
 
 pub label-returns-in-Refused-clause-reading : goal.label-returns-in-Refused-clause-reading
 label-returns-in-Refused-clause-reading t c =
-    let f = subst (λ (y : Lettered). Reading (token_from c.args.text.now) c.args.props Unit-level c.args.deeper c.loop-refusal.at y) c.in-Refused.is c.unit-read.ensures in
+    let f = subst (λ (y : Lettered). Reading (token_from c.args.text.now) c.args.props unit_level c.args.deeper c.loop-refusal.at y) c.in-Refused.is c.unit-read.ensures in
     λ o. pushes (c.loop-refusal.invariant.1.walks o) (f o)
 
 -- the unit that a turn has read
-found : (T : ℕ → Token) (p d i : ℕ) {m j : ℕ} {r : Lettered} → r ≡ Letters m j → Reading T p Unit-level d i r → Found T p Unit-level d i m j
-found T p d i e f = subst (λ (y : Lettered). Reading T p Unit-level d i y) e f
+found : (T : ℕ → Token) (p d i : ℕ) {m j : ℕ} {r : Lettered} → r ≡ Letters m j → Reading T p unit_level d i r → Found T p unit_level d i m j
+found T p d i e f = subst (λ (y : Lettered). Reading T p unit_level d i y) e f
 
 pub label-token_from-x-requires : goal.label-token_from-x-requires
 label-token_from-x-requires t c =
     (is-on c.args.text.now (found (token_from c.args.text.now) c.args.props c.args.deeper c.loop-refusal.at c.in-Letters.is c.unit-read.ensures).is c.loop-refusal.invariant.0).1
 
 -- the token behind it goes on, unless it is none
-ahead : (s : List ℕ) {p d i m j : ℕ} {x : Token} → Found (token_from s) p Unit-level d i m j → i ≤ length s → x ≡ token_from s j → x.sort < sort.nothing → (i < x.next) × (x.next ≤ length s)
+ahead : (s : List ℕ) {p d i m j : ℕ} {x : Token} → Found (token_from s) p unit_level d i m j → i ≤ length s → x ≡ token_from s j → x.sort < sort.nothing → (i < x.next) × (x.next ≤ length s)
 ahead s f l e small =
     let over = is-on s f.is l in
     let next = next-on s e over.1 small in
@@ -74,8 +74,8 @@ label-loop-refusal-preserved t c =
 -- ---- unit
 
 -- what is read behind the row, turned, is the unit
-behind : (T : ℕ → Token) (p d i h : ℕ) (b : Bool) (r q : Lettered) → Nots T i b h → q ≡ turned_of b r → Reading T p Unit-level d h r → Reading T p Unit-level d i q
-behind T p d i h b r q n e f = subst (λ (y : Lettered). Reading T p Unit-level d i y) (sym e) (unit-turned T p d i h b r n f)
+behind : (T : ℕ → Token) (p d i h : ℕ) (b : Bool) (r q : Lettered) → Nots T i b h → q ≡ turned_of b r → Reading T p unit_level d h r → Reading T p unit_level d i q
+behind T p d i h b r q n e f = subst (λ (y : Lettered). Reading T p unit_level d i y) (sym e) (unit-turned T p d i h b r n f)
 
 pub unit-returns-then-deeper-eq0 : goal.unit-returns-then-deeper-eq0
 unit-returns-then-deeper-eq0 t c =
@@ -94,7 +94,7 @@ pub unit-ended-requires : goal.unit-ended-requires
 unit-ended-requires t c =
     let a = c.args in
     let beyond = next-on c.args.text.now c.nots-row.ensures.behind c.nots-row.ensures.inside (omega arith) in
-    reading-inside a.text.now a.props Whole-level (a.deeper - 1) c.nots-row.result.behind.next c.label-inner.result beyond.1 c.label-inner.ensures.reading
+    reading-inside a.text.now a.props whole_level (a.deeper - 1) c.nots-row.result.behind.next c.label-inner.result beyond.1 c.label-inner.ensures.reading
 
 pub unit-returns-then-x-eq-GROUP : goal.unit-returns-then-x-eq-GROUP
 unit-returns-then-x-eq-GROUP t c =

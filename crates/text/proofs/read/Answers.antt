@@ -15,7 +15,7 @@ use Rattle.lines.specs.Lines.{lines_of}
 use Rattle.text.specs.declared.survey.Survey.{Survey}
 use Rattle.text.specs.Calls.{Lent, lent_of, before, reading}
 use Rattle.text.specs.Survey.{judgements}
-use Rattle.text.specs.Text.{marks as marks-of, moves as Moves-of, line_faults, text_fault}
+use Rattle.text.specs.Text.{marks as marks_of, moves as moves_of, line_faults, text_fault}
 use Rattle.text.proofs.Effects.{long-fault, lines-fault, reading-refused, reading-few-marks, reading-few-moves, reading-done}
 use Rattle.text.proofs.Joined.{survey_of, broken_fault, whole-fault}
 use Rattle.text.proofs.Sound.{moves-three, moves-bytes}
@@ -43,7 +43,7 @@ returns-then-marks-states c =
     let known_at : (first_fault (line_faults (lines_at)) ≡ first_fault (judgements (survey-at))) × (survey-at ≡ survey_of (lines_at)) = whole-fault (lines_at) (survey-at) (sym c.lines-surveyed.ensures ∙ c.in-Whole.is) in
     let fine : text_fault (text_at) ≡ none = not-long ∙ known_at.0 ∙ checked-none (first_fault (judgements (survey-at))) c.judge-judged.result c.in-Sound.is c.judge-judged.ensures in
     let states_are : survey-at.states ≡ (survey_of (lines_at)).states = ap (λ (s : Survey). s.states) known_at.1 in
-    let moves_are : survey-at.moves ≡ length (Moves-of (lines_at)) / 3 = ap (λ (s : Survey). s.moves) known_at.1 in
+    let moves_are : survey-at.moves ≡ length (moves_of (lines_at)) / 3 = ap (λ (s : Survey). s.moves) known_at.1 in
     let x = lent_at in
     let both = told (text_at) x.marks x.moves _ (elim c.then-marks-states.branch [
       | then-marks-states-via-then-marks-states w ↦ reading-few-marks (text_at) x (fine) (omega (arith, states_are, w.if-marks-states.true))
@@ -83,7 +83,7 @@ returns-else-moves-count c =
     let known_at : (first_fault (line_faults (lines_at)) ≡ first_fault (judgements (survey-at))) × (survey-at ≡ survey_of (lines_at)) = whole-fault (lines_at) (survey-at) (sym c.lines-surveyed.ensures ∙ c.in-Whole.is) in
     let fine : text_fault (text_at) ≡ none = not-long ∙ known_at.0 ∙ checked-none (first_fault (judgements (survey-at))) c.judge-judged.result c.in-Sound.is c.judge-judged.ensures in
     let states_are : survey-at.states ≡ (survey_of (lines_at)).states = ap (λ (s : Survey). s.states) known_at.1 in
-    let moves_are : survey-at.moves ≡ length (Moves-of (lines_at)) / 3 = ap (λ (s : Survey). s.moves) known_at.1 in
+    let moves_are : survey-at.moves ≡ length (moves_of (lines_at)) / 3 = ap (λ (s : Survey). s.moves) known_at.1 in
     let ls = lines_at in
     let x = lent_at in
     let few : survey-at.states ≤ length x.marks = omega (arith, c.if-marks-states.false) in
@@ -91,5 +91,5 @@ returns-else-moves-count c =
     let d = told (text_at) x.marks x.moves _ (reading-done (text_at) x (fine) (omega (arith, few, states_are)) (omega (arith, room, moves_are))) in
     let same : survey-at ≡ survey_of ls = known_at.1 in
     let lines_fine : first_fault (line_faults ls) ≡ none = sym (not-long) ∙ fine in
-    let whole : length (Moves-of ls) ≤ length x.moves = omega (arith, room, moves_are, moves-three ls) in
-    record { result_value = ap (λ (s : Survey). record { number = 0; place = 0; values = s.states ∷ s.letters ∷ s.start ∷ s.mode ∷ s.moves ∷ [] }) same ∙ d.0; marks_after = c.write.ensures.marks_after ∙ ap (λ (n : ℕ). before (marks-of n ls) x.marks) (states_are) ∙ d.1.0; moves_after = c.write.ensures.moves_after ∙ ap (λ (l : List ℕ). laid 0 l x.moves) (moves-bytes ls lines_fine) ∙ laid-whole (Moves-of ls) x.moves whole ∙ d.1.1 }
+    let whole : length (moves_of ls) ≤ length x.moves = omega (arith, room, moves_are, moves-three ls) in
+    record { result_value = ap (λ (s : Survey). record { number = 0; place = 0; values = s.states ∷ s.letters ∷ s.start ∷ s.mode ∷ s.moves ∷ [] }) same ∙ d.0; marks_after = c.write.ensures.marks_after ∙ ap (λ (n : ℕ). before (marks_of n ls) x.marks) (states_are) ∙ d.1.0; moves_after = c.write.ensures.moves_after ∙ ap (λ (l : List ℕ). laid 0 l x.moves) (moves-bytes ls lines_fine) ∙ laid-whole (moves_of ls) x.moves whole ∙ d.1.1 }

@@ -4,7 +4,7 @@ use Prim.Native.Nat.{◌-◌, ◌≤◌}
 use lib.ListN.{length, drop}
 use Rattle.fields.specs.Bytes.{laid}
 use Rattle.lines.specs.Lines.{lines_of}
-use Rattle.text.specs.Text.{accepts, moves as Moves-of, marked}
+use Rattle.text.specs.Text.{accepts, moves as moves_of, marked}
 use Rattle.text.specs.Fill.{bytes}
 use Rattle.text.proofs.fill.fill.Given as goal
 
@@ -12,7 +12,7 @@ abbrev pub invariant-loop-at : goal.invariant-loop-at
 invariant-loop-at l =
     (l.at ≤ length l.text) × (length l.marks ≡ length l.initial.marks) × (length l.moves ≡ length l.initial.moves)
     × (marked (accepts (lines_of (drop l.at l.text))) l.marks ≡ marked (accepts (lines_of l.text)) l.initial.marks)
-    × (laid l.to (bytes (Moves-of (lines_of (drop l.at l.text)))) l.moves ≡ laid 0 (bytes (Moves-of (lines_of l.text))) l.initial.moves)
+    × (laid l.to (bytes (moves_of (lines_of (drop l.at l.text)))) l.moves ≡ laid 0 (bytes (moves_of (lines_of l.text))) l.initial.moves)
 
 abbrev pub decreases-loop-at : goal.decreases-loop-at
 decreases-loop-at l = length l.text - l.at
