@@ -3,16 +3,15 @@
 
 use report::Reported;
 use std::io;
-use std::io::Read;
 
 // One byte more than a text may have, so that a longer one is seen to be longer.
 const BYTES: usize = text::BYTES + 1;
 
 fn main(rt: HostRuntime) -> io::Result<()> {
-    let mut text = Vec::new(rt.alloc());
-    rt.reader().take(BYTES as u64).read_to_end(&mut text)?;
+    let mut text = [0u8; BYTES];
+    let count = report::fill(&mut rt.reader(), &mut text[..])?;
     let mut out = [0u8; report::LONGEST];
-    let reported = report::report(text.as_slice(), &mut out[..]);
+    let reported = report::report(&text[0..count], &mut out[..]);
     match reported {
         Reported::Bytes(bytes) => rt.write_all(&out[0..bytes]),
         Reported::Refused(_) => Ok(()),

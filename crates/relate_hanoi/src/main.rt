@@ -3,16 +3,15 @@
 
 use report::Reported;
 use std::io;
-use std::io::Read;
 
 // One byte more than a file may have, so that a longer one is seen to be longer.
 const BYTES: usize = text::BYTES + 1;
 
 fn main(rt: HostRuntime) -> io::Result<()> {
-    let mut file = Vec::new(rt.alloc());
-    rt.reader().take(BYTES as u64).read_to_end(&mut file)?;
+    let mut file = [0u8; BYTES];
+    let count = report::fill(&mut rt.reader(), &mut file[..])?;
     let mut out = [0u8; report::LONGEST];
-    let reported = hanoi_report::report(file.as_slice(), &mut out[..]);
+    let reported = hanoi_report::report(&file[0..count], &mut out[..]);
     match reported {
         Reported::Bytes(bytes) => rt.write_all(&out[0..bytes]),
         Reported::Refused(_) => Ok(()),

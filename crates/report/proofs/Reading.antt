@@ -14,7 +14,7 @@ use Rattle.text.specs.declared.Reading.TheVariants.{Held}
 use Rattle.text.specs.Answers.{of_reading}
 use Rattle.text.specs.Calls.{Lent, lent_of, before, held, reading}
 use Rattle.text.specs.Lines.{lines_of}
-use Rattle.text.specs.Text.{head, mode, marks, moves, line_faults, text_fault, Legible}
+use Rattle.text.specs.Text.{head, mode, moves, line_faults, text_fault, Legible}
 use Rattle.text.proofs.Accepted.{text_line}
 use Rattle.text.proofs.Effects.{done, lines-fault, reading-refused, reading-done}
 use Rattle.text.proofs.Few.{moves-few}

@@ -1,11 +1,14 @@
 // From the bytes of a text to the bytes that the relation program prints: `report`.
 #![tactic(auto)]
 
+mod input; // input.rt: reading what a program is given
+
 ghost use Rattle.std.specs.Prelude.{◌≡◌};
 ghost use Rattle.report.specs.Answers.{of_reported};
 ghost use Rattle.report.specs.Calls.{reporting};
 
 use automaton::Refusal;
+pub use input::fill;
 use text::Reading;
 
 // What `report` answers: how many bytes it wrote.
