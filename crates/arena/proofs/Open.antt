@@ -24,7 +24,7 @@ use Rattle.arena.specs.declared.Arena.{Arena}
 use Rattle.arena.specs.declared.Opened.{Opened}
 use Rattle.arena.specs.declared.Opened.TheVariants.{Open, Shut}
 use Rattle.arena.specs.Job.{Job, mode_of, game_of}
-use Rattle.arena.specs.Refusals.{job_fault, length_fault, open_fault_lem, Proper, Fitting}
+use Rattle.arena.specs.Refusals.{job_fault, length_fault, open_fault, Proper, Fitting}
 use Rattle.arena.specs.Arena.{arena_of, game_in, Ready, opened_by, entered, fitted, opened}
 
 -- ---- reading an opened arena back
@@ -103,7 +103,7 @@ module _ (j : Job) where
 pub size-line : (P entries : ℕ) → Line (length_fault P entries) (entries ≡ P)
 size-line P entries = fails-line _ _ TableLength (λ e. eqb-true entries P (not-false (eqb entries P) e), λ e. simp (eq-eqb entries P e))
 
-pub open_line : (j : Job) (t : List ℕ) → Line (open_fault_lem j (length t)) (Fitting j t)
+pub open_line : (j : Job) (t : List ℕ) → Line (open_fault j (length t)) (Fitting j t)
 open_line j t = Iff.trans (table-line (job_line j then size-line (game_of j).P (length t) then end)) (λ h. (h.0, h.1.0), λ h. (h.0, (h.1, tt)))
 
 pub fitted_short : (g : Arena) (entries : ℕ) → entries ≢ g.pairs * (1 + g.letters) → Shut TableLength ≡ fitted g entries
@@ -128,17 +128,17 @@ module _ (j : Job) (entries : ℕ) where
 -- ---- what an opened arena is
 
 module _ (j : Job) (t : List ℕ) where
-  pub shut_fault : (r : Refusal) → opened j (length t) ≡ Shut r → open_fault_lem j (length t) ≡ fault r
+  pub shut_fault : (r : Refusal) → opened j (length t) ≡ Shut r → open_fault j (length t) ≡ fault r
   unfolding opened
-  shut_fault r o = by_shut (open_fault_lem j (length t)) _ r o
+  shut_fault r o = by_shut (open_fault j (length t)) _ r o
 
   module _ (g : Arena) (o : opened j (length t) ≡ Open g) where
-    pub open_is : (open_fault_lem j (length t) ≡ none) × (arena_of j.board (mode_of j.mode) ≡ g)
+    pub open_is : (open_fault j (length t) ≡ none) × (arena_of j.board (mode_of j.mode) ≡ g)
     unfolding opened
-    open_is = by_open (open_fault_lem j (length t)) _ g o
+    open_is = by_open (open_fault j (length t)) _ g o
 
-    pub open_fault : open_fault_lem j (length t) ≡ none
-    open_fault = open_is.0
+    pub open_faultless : open_fault j (length t) ≡ none
+    open_faultless = open_is.0
 
     pub open_game : game_of j ≡ game_in g j.board.marks j.board.moves
     open_game = ap (λ h. game_in h j.board.marks j.board.moves) open_is.1
@@ -147,7 +147,7 @@ module _ (j : Job) (t : List ℕ) where
     open_ready = subst (λ h. Ready h j.board.marks j.board.moves t) open_is.1 ready
       where
         holds : Fitting j t
-        holds = (open_line j t).0 open_fault
+        holds = (open_line j t).0 open_faultless
 
         ready : Ready (arena_of j.board (mode_of j.mode)) j.board.marks j.board.moves t
         ready = record { formed = holds.0.0; paired = refl; topped = refl; entries = holds.1 }

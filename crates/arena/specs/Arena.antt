@@ -10,7 +10,7 @@ use Rattle.arena.specs.declared.Arena.{Arena}
 use Rattle.arena.specs.declared.Opened.{Opened}
 use Rattle.arena.specs.declared.Opened.TheVariants.{Open, Shut}
 use Rattle.arena.specs.Job.{Job, mode_of}
-use Rattle.arena.specs.Refusals.{job_fault, length_fault, open_fault_lem}
+use Rattle.arena.specs.Refusals.{job_fault, length_fault, open_fault}
 
 -- the numbers of a board's game in a mode
 abbrev pub arena_of : Board → Mode → Arena
@@ -43,4 +43,4 @@ abbrev pub fitted : Arena → (entries : ℕ) → Opened
 fitted g entries = opened_by (length_fault (g.pairs * (1 + g.letters)) entries) g
 
 unfoldable pub opened : Job → (entries : ℕ) → Opened
-opened j entries = opened_by (open_fault_lem j entries) (arena_of j.board (mode_of j.mode))
+opened j entries = opened_by (open_fault j entries) (arena_of j.board (mode_of j.mode))

@@ -20,12 +20,12 @@ abbrev pub length_fault : (P entries : ℕ) → Fault
 length_fault P entries = fails (not (eqb entries P)) TableLength
 
 -- 1 to 9
-abbrev pub open_fault_lem : Job → (entries : ℕ) → Fault
-open_fault_lem j entries = first_fault (job_fault j ∷ length_fault (game_of j).P entries ∷ [])
+abbrev pub open_fault : Job → (entries : ℕ) → Fault
+open_fault j entries = first_fault (job_fault j ∷ length_fault (game_of j).P entries ∷ [])
 
 -- a call on a table of so many entries: first the refusals 1 to 9, then what it does in the game
 abbrev pub opening : {X : Type 0} → Job → (entries : ℕ) → (lent : X) → Effect X → Effect X
-opening j entries x e = does (open_fault_lem j entries) x e
+opening j entries x e = does (open_fault j entries) x e
 
 -- ---- what a call must be given, for none of them to apply
 

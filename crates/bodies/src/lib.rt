@@ -8,7 +8,7 @@ ghost use Rattle.triples.specs.Triples.{most_triples};
 ghost use Rattle.bodies.specs.Body.{blank};
 ghost use Rattle.bodies.specs.Adds.{Adds};
 ghost use Rattle.bodies.specs.Reads.{Reads};
-ghost use Rattle.bodies.specs.Stands.{block_next, braces_next, edges_next, named_next, only as onlyOf, signed_next, step as step_of};
+ghost use Rattle.bodies.specs.Stands.{block_next, braces_next, edges_next, named_next, only as only_of, signed_next, step as step_of};
 ghost use Rattle.bodies.specs.declared.Due.TheVariants.{State};
 
 use automaton::{Automaton, Refusal};
@@ -172,7 +172,7 @@ fn step(states: usize, due: Due, entry: u8, x: Token) -> Next
 
 // One sort of token and no other.
 fn only(x: Token, sort: u8, next: Next) -> Next
-    ensures { result ≡ onlyOf x sort next }
+    ensures { result ≡ only_of x sort next }
 {
     if x.sort == sort { next } else { Next::Nowhere }
 }

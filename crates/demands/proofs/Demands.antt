@@ -29,7 +29,7 @@ use Rattle.simulation.specs.Rules.{ceiling, game}
 use Rattle.simulation.specs.Won.{Choices, Walks, Answered, WonPair}
 use Rattle.arena.specs.Job.{Job, mode_of, game_of}
 use Rattle.arena.specs.Answers.{of_counted}
-use Rattle.arena.specs.Refusals.{job_fault, open_fault_lem, Proper, Fitting, sizing, topping}
+use Rattle.arena.specs.Refusals.{job_fault, open_fault, Proper, Fitting, sizing, topping}
 use Rattle.table.specs.Answers.{of_cleared, of_lifted, of_rested, of_settled}
 use Rattle.table.specs.Calls.{clearing, lifting, resting, settling}
 use Rattle.relation.specs.Answers.{of_related, of_replied}
@@ -166,7 +166,7 @@ pub report-one : (text out : List ℕ) → One of_reported (reporting text out)
 report-one text out = one of_reported (reporting text out) one_reported
 
 -- The refusals 1 to 9 are the same in every call on a table but `quotient`, and 1 to 7 those of `check`.
-pub same-refusal : (j : Job) (t : List ℕ) (r : Refusal) → open_fault_lem j (length t) ≡ fault r
+pub same-refusal : (j : Job) (t : List ℕ) (r : Refusal) → open_fault j (length t) ≡ fault r
     → (clearing j t ≡ record { answer = refused r; left = t })
     × (settling j t ≡ record { answer = refused r; left = t })
     × ((v : ℕ) → lifting j t v ≡ record { answer = refused r; left = t })
@@ -179,7 +179,7 @@ same-refusal j t r e = (simp e, simp e, λ v. simp e, simp e, λ out. simp e, λ
 -- `quotient` has the same refusals 1 to 8. After them it refuses the modes 0 and 3 with 17, whatever it is lent; in modes 1 and 2 it has 9 as the others do.
 module _ (j : Job) (x : Buffers) where
   pub merge-same : (r : Refusal) → job_fault j ≡ fault r
-      → (open_fault_lem j (length x.table) ≡ fault r) × (quotienting j x ≡ record { answer = refused r; left = x })
+      → (open_fault j (length x.table) ≡ fault r) × (quotienting j x ≡ record { answer = refused r; left = x })
   unfolding quotienting
   merge-same r e = (simp e, simp e)
 
@@ -191,22 +191,22 @@ module _ (j : Job) (x : Buffers) where
 
 -- "A malformed automaton" gets one of the refusals 1 to 7, from `check` and from every call on a table
 pub malformed_refused : (j : Job) (t : List ℕ) → ¬ (Formed j.board × (j.start < j.board.n))
-    → (r : Refusal) × (number_of r ≤ 7) × (checked j.board j.start ≡ refused r) × (job_fault j ≡ fault r) × (open_fault_lem j (length t) ≡ fault r)
+    → (r : Refusal) × (number_of r ≤ 7) × (checked j.board j.start ≡ refused r) × (job_fault j ≡ fault r) × (open_fault j (length t) ≡ fault r)
 unfolding checked
 malformed_refused j t n = go (automaton_fault j.board j.start) refl
   where
     go : (f : Fault) → automaton_fault j.board j.start ≡ f
-        → (r : Refusal) × (number_of r ≤ 7) × (checked j.board j.start ≡ refused r) × (job_fault j ≡ fault r) × (open_fault_lem j (length t) ≡ fault r)
+        → (r : Refusal) × (number_of r ≤ 7) × (checked j.board j.start ≡ refused r) × (job_fault j ≡ fault r) × (open_fault j (length t) ≡ fault r)
     go none e = absurd (n ((automaton-line j.board j.start).0 e))
     go (fault r) e = (r, automaton-to j.board j.start r e, simp e, simp e, simp e)
 
 -- "an unknown mode"
 pub unknown_refused : (j : Job) (t : List ℕ) → Formed j.board → j.start < j.board.n → name_of j.mode ≡ Unknown
-    → (job_fault j ≡ fault ModeNumber) × (open_fault_lem j (length t) ≡ fault ModeNumber)
+    → (job_fault j ≡ fault ModeNumber) × (open_fault j (length t) ≡ fault ModeNumber)
 unknown_refused j t F s e = let sound = (automaton-line j.board j.start).1 (F, s) in (simp (sound, e), simp (sound, e))
 
 -- "a table of wrong length"
-pub length_refused : (j : Job) (t : List ℕ) → Proper j → length t ≢ (game_of j).P → open_fault_lem j (length t) ≡ fault TableLength
+pub length_refused : (j : Job) (t : List ℕ) → Proper j → length t ≢ (game_of j).P → open_fault j (length t) ≡ fault TableLength
 length_refused j t p n = simp ((job_line j).1 p, ne_eqb (length t) (game_of j).P n)
 
 -- "or not at rest where rest is needed": `rest` has value 1 exactly for a table at rest, else it names the lowest position that is not,

@@ -20,7 +20,7 @@ use Rattle.simulation.specs.Answers.{blue_moves, blue_reply, turn_fault, lost_fa
 use Rattle.simulation.specs.Position.{Position, positions, position}
 use Rattle.simulation.specs.Rules.{ceiling}
 use Rattle.arena.specs.Job.{Job, mode_of, game_of}
-use Rattle.arena.specs.Refusals.{job_fault, open_fault_lem, Fitting, sizing, topping}
+use Rattle.arena.specs.Refusals.{job_fault, open_fault, Fitting, sizing, topping}
 use Rattle.arena.proofs.Open.{open_line}
 use Rattle.entries.specs.Found.{restless}
 use Rattle.table.specs.Calls.{entry_fault, position_fault, rested, resting}
@@ -59,7 +59,7 @@ check_refuses B start = unless_refuses (automaton_fault B start) accepted (λ n.
 pub rest_refuses : (j : Job) (t : List ℕ) → (resting j t).number ≢ 0 → Refuses tt (answering (resting j t))
 unfolding resting rested
 rest_refuses j t =
-    unless_refuses (open_fault_lem j (length t)) _
+    unless_refuses (open_fault j (length t)) _
     (unless_refuses (entry_fault (game_of j) t) _ (λ n. absurd (n (rest-number (game_of j).P (first (restless (game_of j) t) 0 (game_of j).P)))))
 
 replied_refuses : (B : Board) (m : Mode) (t : List ℕ) (v : ℕ) (p : Position) → (reply_on B m t v p).number ≢ 0 → Refuses tt (answering (reply_on B m t v p))
@@ -69,7 +69,7 @@ replied_refuses B m t v p =
 pub reply_refuses : (j : Job) (t : List ℕ) (v : ℕ) → (replying j t v).number ≢ 0 → Refuses tt (answering (replying j t v))
 unfolding replying
 reply_refuses j t v =
-    unless_refuses (open_fault_lem j (length t)) _
+    unless_refuses (open_fault j (length t)) _
     (unless_refuses (first_fault (entry_fault (game_of j) t ∷ position_fault (game_of j) v ∷ rest_fault (game_of j) t ∷ [])) _
     (replied_refuses j.board (mode_of j.mode) t v (position j.board (mode_of j.mode) v)))
 

@@ -4,7 +4,7 @@
 
 ghost use Rattle.std.specs.Prelude.{◌≡◌};
 ghost use Rattle.tokens.specs.Tokens.{token_from};
-ghost use Rattle.headers.specs.Stands.{exactly as exactlyOf, item as item_of, names_after, once as onceOf, only as onlyOf, step as step_of, whole as whole_of};
+ghost use Rattle.headers.specs.Stands.{exactly as exactly_of, item as item_of, names_after, once as once_of, only as only_of, step as step_of, whole as whole_of};
 ghost use Rattle.headers.specs.Header.{unsaid};
 ghost use Rattle.headers.specs.Walk.{Walk};
 ghost use Rattle.headers.specs.declared.Next.TheVariants.{To};
@@ -118,7 +118,7 @@ fn step(wanted: Wanted, h: Header, x: Token) -> Next
 
 // One sort of token and no other.
 fn only(x: Token, sort: u8, wanted: Wanted, h: Header) -> Next
-    ensures { result ≡ onlyOf x sort (To wanted h) }
+    ensures { result ≡ only_of x sort (To wanted h) }
 {
     if x.sort == sort {
         Next::To(wanted, h)
@@ -129,7 +129,7 @@ fn only(x: Token, sort: u8, wanted: Wanted, h: Header) -> Next
 
 // One number and no other token.
 fn exactly(x: Token, value: usize, wanted: Wanted, h: Header) -> Next
-    ensures { result ≡ exactlyOf x value (To wanted h) }
+    ensures { result ≡ exactly_of x value (To wanted h) }
 {
     if (x.sort == Sort::NUMBER) & (x.value == value) {
         Next::To(wanted, h)
@@ -165,7 +165,7 @@ fn item(h: Header, x: Token) -> Next
 
 // A header that may stand once.
 fn once(stood: bool, wanted: Wanted, h: Header) -> Next
-    ensures { result ≡ onceOf stood wanted h }
+    ensures { result ≡ once_of stood wanted h }
 {
     if stood {
         Next::Nowhere

@@ -24,7 +24,7 @@ use Rattle.simulation.specs.Rules.{ceiling}
 use Rattle.simulation.proofs.Position.{spoilers_turn, duplicators_turn, number_lt, number-position, position_fits}
 use Rattle.simulation.proofs.Reply.{reply-answers}
 use Rattle.arena.specs.Job.{Job, mode_of, game_of}
-use Rattle.arena.specs.Refusals.{open_fault_lem, Proper}
+use Rattle.arena.specs.Refusals.{open_fault, Proper}
 use Rattle.arena.proofs.Open.{open_line}
 use Rattle.entries.specs.Found.{restless}
 use Rattle.table.specs.Calls.{entry_fault, position_fault}
@@ -46,7 +46,7 @@ output_line B bytes =
 
 -- none of the refusals 1 to 10 and 12 applies
 resting : (j : Job) (t : List ℕ) → Proper j → AtRest (game_of j) t
-    → (open_fault_lem j (length t) ≡ none) × ((entry_fault (game_of j) t ≡ none) × (rest_fault (game_of j) t ≡ none))
+    → (open_fault j (length t) ≡ none) × ((entry_fault (game_of j) t ≡ none) × (rest_fault (game_of j) t ≡ none))
 resting j t p r = ((open_line j t).1 (p, r.entries), ((entry-line (game_of j) t).1 r.capped, (rest-line (game_of j) t).1 r.rest))
 
 -- ---- relation
@@ -56,7 +56,7 @@ module _ (j : Job) (t out : List ℕ) where
   unfolding relating
   relation-accepted =
       Iff.trans
-      (does-number (open_fault_lem j (length t)) out _ _ _ (open_line j t)
+      (does-number (open_fault j (length t)) out _ _ _ (open_line j t)
       (does-number (first_fault (entry_fault (game_of j) t ∷ rest_fault (game_of j) t ∷ output_fault j.board (length out) ∷ [])) out _ _ _
       (table-line (entry-line (game_of j) t then rest-line (game_of j) t then output_line j.board (length out) then end))
       (always (valued (related j.board (mode_of j.mode) t)) refl))) (
@@ -71,7 +71,7 @@ module _ (j : Job) (t out : List ℕ) where
   pub relation-refused : (relating j t out).answer.number ≢ 0 → Refuses out (relating j t out)
   unfolding relating
   relation-refused =
-      does-refuse (open_fault_lem j (length t)) out _
+      does-refuse (open_fault j (length t)) out _
       (does-refuse (first_fault (entry_fault (game_of j) t ∷ rest_fault (game_of j) t ∷ output_fault j.board (length out) ∷ [])) out _ (λ n. absurd (n refl)))
 
 -- ---- reply
@@ -121,7 +121,7 @@ module _ (j : Job) (t : List ℕ) (v : ℕ) where
           let faults = turn_fault (position B m v) ∷ lost_fault (ceiling B m) (at t v) ∷ move_fault (blue_moves B (position B m v)) ∷ [] in
           let here : Line (first_fault faults) ((pairs B m ≤ v) × ((at t v < (game_of j).T) × ((move_fault (blue_moves B (position B m v)) ≡ none) × Unit {0}))) = table-line (turn-line then lost_line then (λ e. e, λ e. e) then end) in
           let all =
-          (unless_also (open_fault_lem j (length t)) _ _ _ (open_line j t)
+          (unless_also (open_fault j (length t)) _ _ _ (open_line j t)
           (unless_also (first_fault (entry_fault (game_of j) t ∷ position_fault (game_of j) v ∷ rest_fault (game_of j) t ∷ [])) _ _ _ lines
           (Iff.trans (unless-number (first_fault faults) (valued (blue_reply B m t (position B m v))) refl) here))).0 z in
           let e = all.1.0 in

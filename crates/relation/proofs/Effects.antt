@@ -10,15 +10,15 @@ use Rattle.automaton.specs.declared.Refusal.TheVariants.{PositionNumber, OutputL
 use Rattle.automaton.specs.Answer.{valued, refused, none, fault}
 use Rattle.simulation.specs.Answers.{relation, related, reply_at}
 use Rattle.arena.specs.Job.{Job, mode_of, game_of}
-use Rattle.arena.specs.Refusals.{open_fault_lem}
+use Rattle.arena.specs.Refusals.{open_fault}
 use Rattle.table.specs.Calls.{entry_fault}
 use Rattle.relation.specs.Calls.{rest_fault, relating, replying}
 
-pub replying_shut : (j : Job) (t : List ℕ) (v : ℕ) (r : Refusal) → open_fault_lem j (length t) ≡ fault r → replying j t v ≡ refused r
+pub replying_shut : (j : Job) (t : List ℕ) (v : ℕ) (r : Refusal) → open_fault j (length t) ≡ fault r → replying j t v ≡ refused r
 unfolding replying
 replying_shut j t v r e = simp e
 
-module _ (j : Job) (t : List ℕ) (o : open_fault_lem j (length t) ≡ none) where
+module _ (j : Job) (t : List ℕ) (o : open_fault j (length t) ≡ none) where
   -- an entry is above T, or none is and the table is not at rest, or it is
   abbrev pub Above : Refusal → Type 0
   Above r = entry_fault (game_of j) t ≡ fault r

@@ -12,7 +12,7 @@ use Rattle.automaton.specs.Answer.{Answer, valued, placed, value, refused, Fault
 use Rattle.automaton.specs.First.{first}
 use Rattle.automaton.proofs.One.{refused-not, unless-refused}
 use Rattle.arena.specs.Job.{Job, game_of}
-use Rattle.arena.specs.Refusals.{open_fault_lem}
+use Rattle.arena.specs.Refusals.{open_fault}
 use Rattle.entries.specs.Found.{restless}
 use Rattle.table.specs.Calls.{entry_fault, rested, resting}
 use Rattle.relation.specs.Calls.{rest_fault}
@@ -39,7 +39,7 @@ told-one none true w e = let z : ◌≡◌ {A = ℕ} 1 0 = ap value e in absurd 
 told-one none false w e = (refl, refl)
 told-one (fault r) b w e = absurd (refused-not r (valued 1) refl (sym e))
 
-module _ (j : Job) (t : List ℕ) (o : open_fault_lem j (length t) ≡ none) where
+module _ (j : Job) (t : List ℕ) (o : open_fault j (length t) ≡ none) where
   -- the lowest position not at rest, or P
   abbrev lowest : ℕ
   lowest = first (restless (game_of j) t) 0 (game_of j).P

@@ -9,7 +9,7 @@ use Rattle.automaton.specs.Effect.{Effect, does}
 use Rattle.simulation.specs.Answers.{relation, related, reply_at}
 use Rattle.arena.specs.Job.{Job, mode_of, game_of}
 use Rattle.simulation.specs.Position.{pairs}
-use Rattle.arena.specs.Refusals.{open_fault_lem, Proper, opening}
+use Rattle.arena.specs.Refusals.{open_fault, Proper, opening}
 use Rattle.entries.specs.Found.{restless}
 use Rattle.table.specs.Calls.{entry_fault, position_fault}
 
@@ -36,7 +36,7 @@ relating j t out =
 -- "Reply: value is the state for Blue."
 unfoldable pub replying : Job → (table : List ℕ) → (v : ℕ) → Answer
 replying j t v =
-    unless (open_fault_lem j (length t))
+    unless (open_fault j (length t))
     (unless (first_fault (entry_fault (game_of j) t ∷ position_fault (game_of j) v ∷ rest_fault (game_of j) t ∷ [])) (reply_at j.board (mode_of j.mode) t v))
 
 -- ---- what a call must be given for no refusal to apply

@@ -17,7 +17,7 @@ use Rattle.automaton.specs.declared.Refusal.TheVariants.{AboveCeiling, PositionN
 use Rattle.automaton.specs.Answer.{accepted, valued, placed, refused, first_fault}
 use Rattle.automaton.proofs.Fault.{Line, fails-line, fails_at-line, ◌then◌, end, table-line, unless-number}
 use Rattle.arena.specs.Job.{Job, game_of}
-use Rattle.arena.specs.Refusals.{open_fault_lem, Fitting}
+use Rattle.arena.specs.Refusals.{open_fault, Fitting}
 use Rattle.automaton.specs.Effect.{Refuses}
 use Rattle.automaton.proofs.Effects.{unless_also, always, alone, does-number, does-refuse}
 use Rattle.table.proofs.Effects.{lifted_in, lifted-out}
@@ -48,15 +48,15 @@ position-line g v = fails-line _ _ PositionNumber (leb-false g.P v, lt-leb g.P v
 
 pub clear-accepted : (j : Job) (t : List ℕ) → ((clearing j t).answer.number ≡ 0) ↔ Fitting j t
 unfolding clearing
-clear-accepted j t = Iff.trans (does-number (open_fault_lem j (length t)) t _ _ _ (open_line j t) (always accepted refl)) alone
+clear-accepted j t = Iff.trans (does-number (open_fault j (length t)) t _ _ _ (open_line j t) (always accepted refl)) alone
 
 pub settle-accepted : (j : Job) (t : List ℕ) → ((settling j t).answer.number ≡ 0) ↔ Fitting j t
 unfolding settling
-settle-accepted j t = Iff.trans (does-number (open_fault_lem j (length t)) t _ _ _ (open_line j t) (always (valued (settle (game_of j)).raised) refl)) alone
+settle-accepted j t = Iff.trans (does-number (open_fault j (length t)) t _ _ _ (open_line j t) (always (valued (settle (game_of j)).raised) refl)) alone
 
 pub lift-accepted : (j : Job) (t : List ℕ) (v : ℕ) → ((lifting j t v).answer.number ≡ 0) ↔ (Fitting j t × (Capped (game_of j) t × (v < (game_of j).P)))
 unfolding lifting lifted
-lift-accepted j t v = does-number (open_fault_lem j (length t)) t _ _ _ (open_line j t) inner
+lift-accepted j t v = does-number (open_fault j (length t)) t _ _ _ (open_line j t) inner
   where
     inner : ((lifted (game_of j) t v).answer.number ≡ 0) ↔ (Capped (game_of j) t × (v < (game_of j).P))
     inner =
@@ -73,7 +73,7 @@ rest-number P w = go (ltb w P)
 pub rest-accepted : (j : Job) (t : List ℕ) → ((resting j t).number ≡ 0) ↔ (Fitting j t × Capped (game_of j) t)
 unfolding resting rested
 rest-accepted j t =
-    unless_also (open_fault_lem j (length t)) (rested (game_of j) t) _ _ (open_line j t)
+    unless_also (open_fault j (length t)) (rested (game_of j) t) _ _ (open_line j t)
     (Iff.trans (unless-number (entry_fault (game_of j) t) (rest_at (game_of j).P _) (rest-number (game_of j).P _)) (entry-line (game_of j) t))
 
 -- ---- what an accepted call does
@@ -100,14 +100,14 @@ module _ (j : Job) (t : List ℕ) (v : ℕ) (f : Fitting j t) (c : Capped (game_
 
 pub clear-refused : (j : Job) (t : List ℕ) → (clearing j t).answer.number ≢ 0 → Refuses t (clearing j t)
 unfolding clearing
-clear-refused j t = does-refuse (open_fault_lem j (length t)) t _ (λ n. absurd (n refl))
+clear-refused j t = does-refuse (open_fault j (length t)) t _ (λ n. absurd (n refl))
 
 pub settle-refused : (j : Job) (t : List ℕ) → (settling j t).answer.number ≢ 0 → Refuses t (settling j t)
 unfolding settling
-settle-refused j t = does-refuse (open_fault_lem j (length t)) t _ (λ n. absurd (n refl))
+settle-refused j t = does-refuse (open_fault j (length t)) t _ (λ n. absurd (n refl))
 
 pub lift-refused : (j : Job) (t : List ℕ) (v : ℕ) → (lifting j t v).answer.number ≢ 0 → Refuses t (lifting j t v)
 unfolding lifting lifted
 lift-refused j t v =
-    does-refuse (open_fault_lem j (length t)) t _
+    does-refuse (open_fault j (length t)) t _
     (does-refuse (first_fault (entry_fault (game_of j) t ∷ position_fault (game_of j) v ∷ [])) t _ (λ n. absurd (n refl)))

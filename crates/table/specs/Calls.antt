@@ -8,7 +8,7 @@ use Rattle.automaton.specs.Answer.{Answer, accepted, valued, placed, Fault, fail
 use Rattle.automaton.specs.First.{first}
 use Rattle.arena.specs.Job.{Job, game_of}
 use Rattle.automaton.specs.Effect.{Effect, does}
-use Rattle.arena.specs.Refusals.{open_fault_lem, opening}
+use Rattle.arena.specs.Refusals.{open_fault, opening}
 use Rattle.entries.specs.Found.{above, restless}
 
 -- ---- the refusals 10 and 11
@@ -42,7 +42,7 @@ unfoldable pub rested : Game → (table : List ℕ) → Answer
 rested g t = unless (entry_fault g t) (rest_at g.P (first (restless g t) 0 g.P))
 
 unfoldable pub resting : Job → (table : List ℕ) → Answer
-resting j t = unless (open_fault_lem j (length t)) (rested (game_of j) t)
+resting j t = unless (open_fault j (length t)) (rested (game_of j) t)
 
 -- "Settle: clear, then sweep positions in ascending order until a whole sweep raises nothing; value is the number of raises."
 unfoldable pub settling : Job → (table : List ℕ) → Effect (List ℕ)

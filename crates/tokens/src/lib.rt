@@ -3,8 +3,8 @@
 
 ghost use Rattle.std.specs.Prelude.{◌≡◌, cond, drop, get_or, length, ◌+◌, ◌≤◌, ◌<◌};
 ghost use Rattle.fields.specs.Bytes.{same};
-ghost use Rattle.tokens.specs.Sorts.{minor, wrong as wrongSort};
-ghost use Rattle.tokens.specs.Tokens.{blank, dashed, digit, gap, head_sort, letter, lower, numeral as numeralOf, opens, past, piece, quoted_to, shuts, sign_sort, sorted, token_at, token_from, unquoted, worded, wordly, word_sort, wrong_at};
+ghost use Rattle.tokens.specs.Sorts.{minor, wrong as wrong_sort};
+ghost use Rattle.tokens.specs.Tokens.{blank, dashed, digit, gap, head_sort, letter, lower, numeral as numeral_of, opens, past, piece, quoted_to, shuts, sign_sort, sorted, token_at, token_from, unquoted, worded, wordly, word_sort, wrong_at};
 
 use fields::Number;
 
@@ -143,7 +143,7 @@ fn wrong(at: usize) -> Token
 
 // Digits from i to j.
 fn numeral(number: Number, i: usize, j: usize) -> Token
-    ensures { result ≡ numeralOf number i j }
+    ensures { result ≡ numeral_of number i j }
 {
     match number {
         Number::Is(value) => Token {
@@ -247,7 +247,7 @@ fn if_known(word: &[u8], known: &[u8], sort: u8, other: u8) -> u8
 
 // What an unknown header word is, by its first byte.
 fn unknown_sort(first: u8) -> u8
-    ensures { result ≡ cond (lower first) minor wrongSort }
+    ensures { result ≡ cond (lower first) minor wrong_sort }
 {
     if is_lower(first) {
         return Sort::MINOR;

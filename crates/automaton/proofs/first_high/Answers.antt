@@ -14,15 +14,15 @@ use Rattle.automaton.proofs.first_high.Goals as goal
 
 pub returns-then-marks-i-gt1 : goal.returns-then-marks-i-gt1
 returns-then-marks-i-gt1 c =
-    let markAt : ℕ = get_or c.args.marks.now c.loop-i.i 0 in
-    let above : 1 < markAt = omega (arith, c.if-marks-i-gt1.true) in
-    sym (first-here _ _ _ (lt-ltb 1 markAt above)) ∙ c.loop-i.invariant.1
+    let mark_at : ℕ = get_or c.args.marks.now c.loop-i.i 0 in
+    let above : 1 < mark_at = omega (arith, c.if-marks-i-gt1.true) in
+    sym (first-here _ _ _ (lt-ltb 1 mark_at above)) ∙ c.loop-i.invariant.1
 
 pub loop-i-preserved : goal.loop-i-preserved
 loop-i-preserved c =
-    let markAt : ℕ = get_or c.args.marks.now c.loop-i.i 0 in
-    let not-above : markAt ≤ 1 = omega (arith, c.if-marks-i-gt1.false) in
-    (search rules, first_passed _ _ _ c.loop-i-test.true (le-ltb 1 markAt not-above) ∙ c.loop-i.invariant.1)
+    let mark_at : ℕ = get_or c.args.marks.now c.loop-i.i 0 in
+    let not-above : mark_at ≤ 1 = omega (arith, c.if-marks-i-gt1.false) in
+    (search rules, first_passed _ _ _ c.loop-i-test.true (le-ltb 1 mark_at not-above) ∙ c.loop-i.invariant.1)
 
 pub returns : goal.returns
 returns c = sym (first-end _ _ _ c.loop-i-test.false) ∙ c.loop-i.invariant.1

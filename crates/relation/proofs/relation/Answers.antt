@@ -11,9 +11,9 @@ use Rattle.arena.specs.declared.Arena.{Arena}
 use Rattle.arena.specs.declared.Opened.TheVariants.{Open}
 use Rattle.arena.specs.Arena.{board_in, opened}
 use Rattle.arena.specs.Job.{Job, job_of}
-use Rattle.arena.specs.Refusals.{open_fault_lem}
+use Rattle.arena.specs.Refusals.{open_fault}
 use Rattle.arena.specs.Seats.{Seated}
-use Rattle.arena.proofs.Open.{open_is, open_fault, open_ready}
+use Rattle.arena.proofs.Open.{open_is, open_faultless, open_ready}
 use Rattle.arena.proofs.Opening.{shut_effect}
 use Rattle.arena.proofs.Seats.{seated, square_most}
 use Rattle.table.specs.Answers.{of_rested}
@@ -39,7 +39,7 @@ returns-then-out-states c =
     let out : List ℕ = c.args.out.now in
     let arena : Arena = c.in-Open.g in
     let is_open : opened job (length table) ≡ Open arena = sym c.for_table-opened.ensures ∙ c.in-Open.is in
-    let faultless : open_fault_lem job (length table) ≡ none = open_fault job table arena is_open in
+    let faultless : open_fault job (length table) ≡ none = open_faultless job table arena is_open in
     let states_are : arena.states ≡ job.board.n = ap (λ (h : Arena). h.states) (sym (open_is job table arena is_open).1) in
     let at_rest : Resting job table faultless = rest-one job table faultless (sym (ap of_rested c.in-AtRest.is) ∙ c.rest-rested.ensures) in
     let n = states_are in
@@ -71,7 +71,7 @@ returns-in-Refused c =
     let out : List ℕ = c.args.out.now in
     let arena : Arena = c.in-Open.g in
     let is_open : opened job (length table) ≡ Open arena = sym c.for_table-opened.ensures ∙ c.in-Open.is in
-    let faultless : open_fault_lem job (length table) ≡ none = open_fault job table arena is_open in
+    let faultless : open_fault job (length table) ≡ none = open_faultless job table arena is_open in
     let ends = both (sym (relating-above job table faultless out c.in-Refused.refusal (rest-refused job table faultless c.in-Refused.refusal (sym (ap of_rested c.in-Refused.is) ∙ c.rest-rested.ensures)))) in
     record { result_value = ends.0; out_after = ends.1 }
 
@@ -82,7 +82,7 @@ returns-in-Restless c =
     let out : List ℕ = c.args.out.now in
     let arena : Arena = c.in-Open.g in
     let is_open : opened job (length table) ≡ Open arena = sym c.for_table-opened.ensures ∙ c.in-Open.is in
-    let faultless : open_fault_lem job (length table) ≡ none = open_fault job table arena is_open in
+    let faultless : open_fault job (length table) ≡ none = open_faultless job table arena is_open in
     let ends = both (sym (relating-restless job table faultless out _ (rest-placed job table faultless c.in-Restless.lowest (sym (ap of_rested c.in-Restless.is) ∙ c.rest-rested.ensures)))) in
     record { result_value = ends.0; out_after = ends.1 }
 
@@ -93,7 +93,7 @@ returns-else-out-states c =
     let out : List ℕ = c.args.out.now in
     let arena : Arena = c.in-Open.g in
     let is_open : opened job (length table) ≡ Open arena = sym c.for_table-opened.ensures ∙ c.in-Open.is in
-    let faultless : open_fault_lem job (length table) ≡ none = open_fault job table arena is_open in
+    let faultless : open_fault job (length table) ≡ none = open_faultless job table arena is_open in
     let states_are : arena.states ≡ job.board.n = ap (λ (h : Arena). h.states) (sym (open_is job table arena is_open).1) in
     let at_rest : Resting job table faultless = rest-one job table faultless (sym (ap of_rested c.in-AtRest.is) ∙ c.rest-rested.ensures) in
     let g = arena in

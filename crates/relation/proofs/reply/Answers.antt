@@ -12,8 +12,8 @@ use Rattle.arena.specs.declared.Arena.{Arena}
 use Rattle.arena.specs.declared.Opened.TheVariants.{Open}
 use Rattle.arena.specs.Arena.{board_in, opened, Ready}
 use Rattle.arena.specs.Job.{Job, job_of, game_of}
-use Rattle.arena.specs.Refusals.{open_fault_lem}
-use Rattle.arena.proofs.Open.{open_is, open_game, open_fault, open_ready, shut_fault}
+use Rattle.arena.specs.Refusals.{open_fault}
+use Rattle.arena.proofs.Open.{open_is, open_game, open_faultless, open_ready, shut_fault}
 use Rattle.table.specs.Answers.{of_rested}
 use Rattle.relation.proofs.Effects.{Resting, Restless, replying_shut, replying-above, replying-beyond, replying-restless, replying-does}
 use Rattle.relation.proofs.Tested.{rest-refused, rest-placed, rest-one}
@@ -26,7 +26,7 @@ returns-then-table-position c =
     let asked : ℕ = c.args.position in
     let arena : Arena = c.in-Open.g in
     let is_open : opened job (length table) ≡ Open arena = sym c.for_table-opened.ensures ∙ c.in-Open.is in
-    let faultless : open_fault_lem job (length table) ≡ none = open_fault job table arena is_open in
+    let faultless : open_fault job (length table) ≡ none = open_faultless job table arena is_open in
     let ready : Ready arena job.board.marks job.board.moves table = open_ready job table arena is_open in
     let entries : length table ≡ (game_of job).P = ready.entries ∙ sym (ap (λ (g : Game). g.P) (open_game job table arena is_open)) in
     let restless : Restless job table faultless (NotAtRest c.in-Restless.lowest) = rest-placed job table faultless c.in-Restless.lowest (sym (ap of_rested c.in-Restless.is) ∙ c.rest-rested.ensures) in
@@ -39,7 +39,7 @@ returns-then-table-position-2 c =
     let asked : ℕ = c.args.position in
     let arena : Arena = c.in-Open.g in
     let is_open : opened job (length table) ≡ Open arena = sym c.for_table-opened.ensures ∙ c.in-Open.is in
-    let faultless : open_fault_lem job (length table) ≡ none = open_fault job table arena is_open in
+    let faultless : open_fault job (length table) ≡ none = open_faultless job table arena is_open in
     let ready : Ready arena job.board.marks job.board.moves table = open_ready job table arena is_open in
     let entries : length table ≡ (game_of job).P = ready.entries ∙ sym (ap (λ (g : Game). g.P) (open_game job table arena is_open)) in
     let at_rest : Resting job table faultless = rest-one job table faultless (sym (ap of_rested c.in-AtRest.is) ∙ c.rest-rested.ensures) in
@@ -68,7 +68,7 @@ returns-in-Refused c =
     let asked : ℕ = c.args.position in
     let arena : Arena = c.in-Open.g in
     let is_open : opened job (length table) ≡ Open arena = sym c.for_table-opened.ensures ∙ c.in-Open.is in
-    let faultless : open_fault_lem job (length table) ≡ none = open_fault job table arena is_open in
+    let faultless : open_fault job (length table) ≡ none = open_faultless job table arena is_open in
     sym (replying-above job table faultless asked c.in-Refused.refusal (rest-refused job table faultless c.in-Refused.refusal (sym (ap of_rested c.in-Refused.is) ∙ c.rest-rested.ensures)))
 
 pub returns-else-table-position : goal.returns-else-table-position
@@ -78,7 +78,7 @@ returns-else-table-position c =
     let asked : ℕ = c.args.position in
     let arena : Arena = c.in-Open.g in
     let is_open : opened job (length table) ≡ Open arena = sym c.for_table-opened.ensures ∙ c.in-Open.is in
-    let faultless : open_fault_lem job (length table) ≡ none = open_fault job table arena is_open in
+    let faultless : open_fault job (length table) ≡ none = open_faultless job table arena is_open in
     let ready : Ready arena job.board.marks job.board.moves table = open_ready job table arena is_open in
     let entries : length table ≡ (game_of job).P = ready.entries ∙ sym (ap (λ (g : Game). g.P) (open_game job table arena is_open)) in
     let restless : Restless job table faultless (NotAtRest c.in-Restless.lowest) = rest-placed job table faultless c.in-Restless.lowest (sym (ap of_rested c.in-Restless.is) ∙ c.rest-rested.ensures) in
@@ -91,7 +91,7 @@ returns-else-table-position-2 c =
     let asked : ℕ = c.args.position in
     let arena : Arena = c.in-Open.g in
     let is_open : opened job (length table) ≡ Open arena = sym c.for_table-opened.ensures ∙ c.in-Open.is in
-    let faultless : open_fault_lem job (length table) ≡ none = open_fault job table arena is_open in
+    let faultless : open_fault job (length table) ≡ none = open_faultless job table arena is_open in
     let ready : Ready arena job.board.marks job.board.moves table = open_ready job table arena is_open in
     let entries : length table ≡ (game_of job).P = ready.entries ∙ sym (ap (λ (g : Game). g.P) (open_game job table arena is_open)) in
     let at_rest : Resting job table faultless = rest-one job table faultless (sym (ap of_rested c.in-AtRest.is) ∙ c.rest-rested.ensures) in

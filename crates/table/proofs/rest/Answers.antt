@@ -10,7 +10,7 @@ use Rattle.arena.specs.Job.{Job, job_of, game_of}
 use Rattle.automaton.specs.Answer.{Fault, unless}
 use Rattle.arena.specs.Arena.{opened, Ready}
 use Rattle.table.specs.Calls.{rested, resting}
-use Rattle.arena.proofs.Open.{shut_fault, open_fault, open_ready, open_game}
+use Rattle.arena.proofs.Open.{shut_fault, open_faultless, open_ready, open_game}
 use Rattle.table.proofs.rest.Goals as goal
 
 pub rest_in-requires : goal.rest_in-requires
@@ -40,4 +40,4 @@ returns-in-Open c =
     let t = table in
     c.rest_in.ensures
     ∙ ap (λ (g : Game). rested g t) (sym (open_game j t arena is_open))
-    ∙ sym (ap (λ (f : Fault). unless f (rested (game_of j) t)) (open_fault j t arena is_open))
+    ∙ sym (ap (λ (f : Fault). unless f (rested (game_of j) t)) (open_faultless j t arena is_open))
