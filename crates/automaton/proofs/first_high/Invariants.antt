@@ -1,15 +1,10 @@
 -- `automaton::first_high` meets its contract. The invariant: the first high mark from i on is the first of all.
 -- The measure is the number of marks left.
-use mathlib.Core.Path.{◌≡◌, sym, ◌∙◌}
-use Prim.Native.Nat.{ℕ, ◌-◌, ◌≤◌, ◌<◌}
-use native.Mathlib.Nat.{sub-zero}
-use native.Mathlib.Omega.{arith}
-use borrow.Author.Rules.{rules}
-use borrow.Author.Tests.{lt-ltb, le-ltb}
-use lib.ListN.{length, get_or}
+use mathlib.Core.Path.{◌≡◌}
+use Prim.Native.Nat.{◌-◌, ◌≤◌}
+use lib.ListN.{length}
 use Rattle.automaton.specs.Check.{high}
 use Rattle.automaton.specs.First.{first}
-use Rattle.automaton.proofs.First.{first-here, first_passed, first-end}
 use Rattle.automaton.proofs.first_high.Given as goal
 
 abbrev pub invariant-loop-i : goal.invariant-loop-i

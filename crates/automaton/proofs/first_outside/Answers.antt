@@ -1,12 +1,7 @@
 -- `automaton::first_outside` meets its contract. The invariant: the first outside move from i on is the first of all.
 -- The measure is the number of moves left.
-use mathlib.Core.Path.{◌≡◌, sym, ◌∙◌}
-use Prim.Native.Nat.{◌-◌, ◌≤◌, ◌/◌}
-use native.Mathlib.Nat.{sub-zero}
+use mathlib.Core.Path.{sym, ◌∙◌}
 use borrow.Author.Rules.{rules}
-use lib.ListN.{length}
-use Rattle.automaton.specs.Board.{outside}
-use Rattle.automaton.specs.First.{first}
 use Rattle.automaton.proofs.First.{first-here, first_passed, first-end}
 use Rattle.automaton.proofs.first_outside.Goals as goal
 

@@ -2,8 +2,6 @@
 use mathlib.Core.Path.{◌≡◌, ap}
 use Prim.Native.Nat.{ℕ, ◌*◌, ◌-◌, ◌%◌, ◌^◌}
 use native.Mathlib.Omega.{arith}
-use borrow.Author.Rules.{rules}
-use lib.Pow.{pow_pos}
 use Rattle.words.proofs.Operations.{bit_of, below_made}
 use Rattle.words.proofs.below.Goals as goal
 

@@ -1,5 +1,4 @@
 -- `words::rest` meets its contract: m & (m - 1) takes the lowest member away.
-use borrow.Author.Rules.{rules}
 use Rattle.words.proofs.Operations.{pop_made}
 use Rattle.words.proofs.rest.Goals as goal
 

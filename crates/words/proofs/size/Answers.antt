@@ -1,6 +1,4 @@
 -- `words::size` meets its contract: the members are the digits that are 1, of which a word has at most 64.
-use native.Mathlib.Omega.{arith}
-use lib.Count.{ones-le}
 use Rattle.words.proofs.Sum.{ones-sum}
 use Rattle.words.proofs.size.Goals as goal
 

@@ -1,5 +1,4 @@
 -- `words::with` meets its contract: the word of x alone has no other member.
-use borrow.Author.Rules.{rules}
 use Rattle.words.proofs.Operations.{bit_of, with_made}
 use Rattle.words.proofs.with.Goals as goal
 
