@@ -4,6 +4,7 @@ ghost use Rattle.std.specs.Prelude.{◌≤◌, length};
 use super::printed::print;
 use super::tried::try_whole;
 use hanoi::Limits;
+use memchr::memchr;
 use std::io;
 
 // Room for a file.
@@ -15,14 +16,10 @@ fn find(bytes: &[u8], from: usize, byte: u8) -> usize
     ensures from_on { from ≤ result }
     ensures within { result ≤ length bytes.now }
 {
-    let mut i = from;
-    while i < bytes.len() {
-        if bytes[i] == byte {
-            return i;
-        }
-        i += 1;
+    match memchr(byte, &bytes[from..]) {
+        Some(i) => from + i,
+        None => bytes.len(),
     }
-    i
 }
 
 // Reads the file of a line, and prints the title first.
