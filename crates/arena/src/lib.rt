@@ -2,6 +2,8 @@
 // Refusals 1 to 9, which those calls share, are decided here.
 #![tactic(auto)]
 
+mod game; // game.rt: an arena with the marks and the moves lent for it
+
 ghost use Rattle.std.specs.Prelude.{◌≡◌, true, [], ◌+◌, ◌*◌, ◌≤◌, eqb, length, get_or};
 ghost use Rattle.games.specs.Play.{count};
 ghost use Rattle.automaton.specs.Board.{board_of};
@@ -14,6 +16,7 @@ ghost use Rattle.arena.specs.Job.{job_of};
 ghost use Rattle.arena.specs.Refusals.{sizing, topping};
 
 use automaton::{Automaton, Checked, Mode, Named, Refusal};
+pub use game::Game;
 
 // What the work at every position needs: the automaton's numbers, the number of Spoiler's positions, and T.
 #[derive(Clone, Copy)]
