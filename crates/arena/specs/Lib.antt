@@ -3,3 +3,4 @@ pub mod Refusals
 pub mod Answers
 pub mod Arena
 pub mod Seats
+pub mod Game
