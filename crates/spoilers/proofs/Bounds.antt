@@ -63,16 +63,16 @@ into_small n k x a few few_letters hx ha = (digits_lt hx ha, mul-le-mul {n₂ = 
 
 -- the entry of Spoiler's (b,q,r) is in the table, there are words for its row and for b, and their numbers are small
 pub record Placed (g : Arena) (s : Rising) (b q r : ℕ) : Type 0 where
-  pub entry : (b * g.arena.states + q) * g.arena.states + r < length s.table
-  pub small : (b * g.arena.states + q) * g.arena.states + r < 139264
-  pub row : b * g.arena.states ≤ 64
-  pub states : g.arena.states ≤ 64
-  pub risen : b * g.arena.states + q < length s.risen
-  pub olds : b * g.arena.states + q < length s.olds
+  pub entry : (b * g.states + q) * g.states + r < length s.table
+  pub small : (b * g.states + q) * g.states + r < 139264
+  pub row : b * g.states ≤ 64
+  pub states : g.states ≤ 64
+  pub risen : b * g.states + q < length s.risen
+  pub olds : b * g.states + q < length s.olds
   pub rows : b < length s.rows
 
 pub placed : (g : Game) (s : Rising) → Raising g s → (b q r : ℕ) → b < layers g.arena.mode → q < g.arena.states → r < g.arena.states
-    → Placed g s b q r
+    → Placed g.arena s b q r
 placed g s w b q r hb hq hr = record {
   entry = within;
   small = omega (arith, within, w.ready.entries, positions-most B F g.arena.mode);

@@ -14,15 +14,15 @@ use Rattle.spoilers.proofs.pulling.pull_column.Goals as goal
 pub column_at-c-requires : goal.column_at-c-requires
 column_at-c-requires c = record { known = c.requires.known; b_bound = c.requires.b_bound }
 
-pub returns-then-c-g : goal.returns-then-c-g
-returns-then-c-g c =
+pub returns-then-c-game : goal.returns-then-c-game
+returns-then-c-game c =
     let B : Board = board c.args.game.now in
     let B = board c.args.game.now in
     record {
       pushed = pushed_none B c.args.game.now.arena.mode _;
       column_heeds = λ q hq a x.
           column_still B c.args.game.now.arena.mode c.args.table.now c.requires.working.raising.ready.formed c.requires.working.capped c.requires.working.floor c.column_at-c.ensures
-          (omega (arith, c.requires.working.raising.ready.topped, c.if-c-g.true)) a x q;
+          (omega (arith, c.requires.working.raising.ready.topped, c.if-c-game.true)) a x q;
     }
 
 pub loop-q-init : goal.loop-q-init

@@ -11,15 +11,15 @@ most n k moves hn hk hm =
 
 pub overflow_mul-result : goal.overflow_mul-result
 overflow_mul-result c =
-    let within : let n = c.args.game.now.arena.states in let k = c.args.game.now.arena.letters in (n * k ≤ 1024) × (n * (n * k + c.args.moves) ≤ 4259840) = most _ _ _ c.requires.0 c.requires.1 c.if-moves-le65536.true in
+    let within : let n = c.args.g.states in let k = c.args.g.letters in (n * k ≤ 1024) × (n * (n * k + c.args.moves) ≤ 4259840) = most _ _ _ c.requires.0 c.requires.1 c.if-moves-le65536.true in
     omega (arith, within.0)
 
 pub overflow_add-result : goal.overflow_add-result
 overflow_add-result c =
-    let within : let n = c.args.game.now.arena.states in let k = c.args.game.now.arena.letters in (n * k ≤ 1024) × (n * (n * k + c.args.moves) ≤ 4259840) = most _ _ _ c.requires.0 c.requires.1 c.if-moves-le65536.true in
+    let within : let n = c.args.g.states in let k = c.args.g.letters in (n * k ≤ 1024) × (n * (n * k + c.args.moves) ≤ 4259840) = most _ _ _ c.requires.0 c.requires.1 c.if-moves-le65536.true in
     omega (arith, within.0, c.if-moves-le65536.true)
 
 pub overflow_mul-result-then-moves-le65536 : goal.overflow_mul-result-then-moves-le65536
 overflow_mul-result-then-moves-le65536 c =
-    let within : let n = c.args.game.now.arena.states in let k = c.args.game.now.arena.letters in (n * k ≤ 1024) × (n * (n * k + c.args.moves) ≤ 4259840) = most _ _ _ c.requires.0 c.requires.1 c.if-moves-le65536.true in
+    let within : let n = c.args.g.states in let k = c.args.g.letters in (n * k ≤ 1024) × (n * (n * k + c.args.moves) ≤ 4259840) = most _ _ _ c.requires.0 c.requires.1 c.if-moves-le65536.true in
     omega (arith, within.1)
