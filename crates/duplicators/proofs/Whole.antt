@@ -32,7 +32,7 @@ use Rattle.duplicators.proofs.Work.{spacious-again}
 pub prepared_again : (g : Game) (acc : ℕ) (into onto risen rows olds : List ℕ) (s u : Growing) {c : ℕ} → AnsweredIn g s u c
     → Prepared g acc into onto (rising s.table risen rows olds) s.grown s.columns → Prepared g acc into onto (rising u.table risen rows olds) u.grown u.columns
 prepared_again g acc into onto risen rows olds s u p o = record {
-  ready = ready-again g s.table u.table o.ready p.entries;
+  ready = ready-again g.arena g.marks.now g.moves.now s.table u.table o.ready p.entries;
   accepting = o.accepting;
   drawn_into = o.drawn_into;
   drawn_onto = o.drawn_onto;

@@ -29,7 +29,7 @@ spacious-again p o = record { words = omega (arith, p.words, o.words); sets = om
 pub working_again : (g : Game) (w : Row) (s u : Growing) {c : ℕ} → AnsweredIn g s u c
     → Working g s.table s.grown s.columns w → Working g u.table u.grown u.columns w
 working_again g w s u p o = record {
-  ready = ready-again g s.table u.table o.ready p.entries;
+  ready = ready-again g.arena g.marks.now g.moves.now s.table u.table o.ready p.entries;
   spacious = spacious-again p o.spacious;
   rowed = o.rowed;
 }
