@@ -1,7 +1,7 @@
-// The game of a call that was let in: its arena, with the marks and the moves lent for it.
-use super::Arena;
+// The game that the work at a position is about.
+use crate::Arena;
 
-// The work at every position reads these three together.
+// An arena with the marks and the moves lent for it.
 #[derive(Clone, Copy)]
 pub struct Game<'a> {
     pub arena: Arena,
