@@ -32,18 +32,18 @@ overflow_add-count c =
 
 pub loop-b-preserved : goal.loop-b-preserved
 loop-b-preserved c =
-    let board : Board = board c.args.game.now in
+    let B : Board = board c.args.game.now in
     let below : c.loop-b.b < layers c.args.game.now.arena.mode = omega (arith, c.loop-b-test.true, c.layers_of-layers.ensures) in
     let o = c.requires.ready in (
       omega (arith, c.loop-b-test.true),
-      half_more board c.args.game.now.arena.mode o.formed o.entries below c.loop-b.invariant.1 c.answer_layer-count.ensures.answered_in c.answer_layer-count.ensures.layer_still,
+      half_more B c.args.game.now.arena.mode o.formed o.entries below c.loop-b.invariant.1 c.answer_layer-count.ensures.answered_in c.answer_layer-count.ensures.layer_still,
     )
 
 pub returns : goal.returns
 returns c =
-    let board : Board = board c.args.game.now in
+    let B : Board = board c.args.game.now in
     let first : Growing = growing c.args.table.now c.args.grown.now c.args.columns.now in
     let here : Growing = growing c.loop-b.table c.loop-b.grown c.loop-b.columns in
     let o = c.requires.ready in
     let past : c.loop-b.b ≡ layers c.args.game.now.arena.mode = omega (arith, c.loop-b-test.false, c.layers_of-layers.ensures, c.loop-b.invariant.0) in
-    record { halved = half_done board c.args.game.now.arena.mode o.formed c.args.game.now.arena.pairs o.paired o.entries (subst (λ (b : ℕ). Half board c.args.game.now.arena.mode first here b c.loop-b.count) past c.loop-b.invariant.1); answered_in = c.loop-b.invariant.1.part }
+    record { halved = half_done B c.args.game.now.arena.mode o.formed c.args.game.now.arena.pairs o.paired o.entries (subst (λ (b : ℕ). Half B c.args.game.now.arena.mode first here b c.loop-b.count) past c.loop-b.invariant.1); answered_in = c.loop-b.invariant.1.part }

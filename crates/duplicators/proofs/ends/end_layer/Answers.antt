@@ -17,8 +17,8 @@ overflow_add-count c =
 
 pub loop-q-preserved : goal.loop-q-preserved
 loop-q-preserved c =
-    let board : Board = board c.args.game.now in (
+    let B : Board = board c.args.game.now in (
       omega (arith, c.loop-q-test.true),
-      ending-more board c.args.game.now.arena.mode c.args.found.now c.requires.ready.formed c.requires.letters_in_bounds.1 c.scan_all-count.ensures.answered_in c.requires.ready.entries c.requires.b_bound c.loop-q-test.true
+      ending-more B c.args.game.now.arena.mode c.args.found.now c.requires.ready.formed c.requires.letters_in_bounds.1 c.scan_all-count.ensures.answered_in c.requires.ready.entries c.requires.b_bound c.loop-q-test.true
           c.loop-q.invariant.1 (rw (c.row_at-w.ensures.b_value.0, c.row_at-w.ensures.b_value.1) at c.scan_all-count.ensures.found_still),
     )

@@ -17,9 +17,9 @@ overflow_add-count c =
 
 pub loop-a-preserved : goal.loop-a-preserved
 loop-a-preserved c =
-    let board : Board = board c.args.game.now in
+    let B : Board = board c.args.game.now in
     let o = c.requires.working in (
       omega (arith, c.loop-a-test.true),
-      letters-more board c.args.game.now.arena.mode c.args.w.b c.args.w.q c.args.found.now o.ready.formed o.ready.entries o.rowed.bit o.rowed.red c.loop-a-test.true c.requires.letters_in_bounds.1
+      letters-more B c.args.game.now.arena.mode c.args.w.b c.args.w.q c.args.found.now o.ready.formed o.ready.entries o.rowed.bit o.rowed.red c.loop-a-test.true c.requires.letters_in_bounds.1
           c.loop-a.invariant.1 c.scan_letter-count.ensures.answered_in c.scan_letter-count.ensures.letter_still,
     )

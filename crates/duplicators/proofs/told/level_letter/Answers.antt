@@ -36,14 +36,14 @@ overflow_add-raised c =
 
 pub loop-left-preserved : goal.loop-left-preserved
 loop-left-preserved c =
-    let board : Board = board c.args.game.now in
+    let B : Board = board c.args.game.now in
     let popped : Pop c.loop-left.left c.lowest-r.result c.rest-left.result = rw c.lowest-r.ensures c.rest-left.ensures in
     let o = c.requires.working in
-    letter-more board c.args.game.now.arena.mode c.args.w.b c.args.w.q c.args.a c.args.candidates o.ready.formed o.ready.entries o.rowed.bit o.rowed.red c.requires.a_lt_letters.0 c.requires.a_lt_letters.1
+    letter-more B c.args.game.now.arena.mode c.args.w.b c.args.w.q c.args.a c.args.candidates o.ready.formed o.ready.entries o.rowed.bit o.rowed.red c.requires.a_lt_letters.0 c.requires.a_lt_letters.1
     popped c.loop-left.invariant c.level_one-raised.ensures.answered_in c.level_one-raised.ensures.still
 
 pub returns : goal.returns
 returns c =
-    let board : Board = board c.args.game.now in
-    let both = letter-end board c.args.game.now.arena.mode c.args.w.b c.args.w.q c.args.a c.args.candidates c.loop-left-test.false c.loop-left.invariant in
+    let B : Board = board c.args.game.now in
+    let both = letter-end B c.args.game.now.arena.mode c.args.w.b c.args.w.q c.args.a c.args.candidates c.loop-left-test.false c.loop-left.invariant in
     record { answered_in = both.0; letter_still = both.1 }
