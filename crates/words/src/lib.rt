@@ -52,7 +52,7 @@ pub fn below(n: usize) -> u64
     ensures { Below n result }
 {
     if n == 64 {
-        return 18446744073709551615;
+        return u64::MAX;
     }
     (1u64 << n) - 1
 }
