@@ -15,7 +15,7 @@ bounds-table-bit c =
     let index : ℕ = pair (board) c.eased-bit.result c.args.q c.args.s in
     let bit_lt : c.eased-bit.result < layers c.args.g.mode =
     let a = c.args in
-    omega (arith, c.eased-bit.ensures, eased_lt a.g.mode (accepts (board) a.s) a.b c.requires.b_bound.0) in
+    omega (arith, c.eased-bit.ensures, eased_lt a.g.mode (accepts (board) a.s) a.b c.requires.position.0) in
     let inside : index < length c.args.table.now =
-    let a = c.args in seat_lt a.g a.marks.now a.table.now c.requires.seated c.eased-bit.result a.q a.s (bit_lt) c.requires.b_bound.1 c.requires.b_bound.2 in
+    let a = c.args in seat_lt a.g a.marks.now a.table.now c.requires.seated c.eased-bit.result a.q a.s (bit_lt) c.requires.position.1 c.requires.position.2 in
     omega (arith, inside)
