@@ -1,5 +1,4 @@
 pub mod Job
 pub mod Refusals
-pub mod Answers
 pub mod Arena
 pub mod Seats
