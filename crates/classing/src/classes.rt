@@ -10,41 +10,35 @@ use automaton::Automaton;
 // Is the beginning of the pair (q, r) below T?
 fn is_below(g: Arena, marks: &[u8], table: &[u32], q: usize, r: usize) -> bool
     requires seated { Seated g marks.now table.now }
-    requires q_lt_states { (q < g.states) × (r < g.states) }
+    requires are_states { (q < g.states) × (r < g.states) }
     ensures { result ≡ below (bare g marks.now) g.mode table.now q r }
 {
     let states = g.states;
-    let mode = g.mode;
-    let b = arena::owed(mode, marks[q] == 1, marks[r] == 1);
+    let b = arena::owed(g.mode, marks[q] == 1, marks[r] == 1);
     table[b * (states * states) + q * states + r] < g.top
 }
 
 // Is each of the two states related to the other?
 fn are_equal(g: Arena, marks: &[u8], table: &[u32], q: usize, r: usize) -> bool
     requires seated { Seated g marks.now table.now }
-    requires q_lt_states { (q < g.states) × (r < g.states) }
+    requires are_states { (q < g.states) × (r < g.states) }
     ensures { result ≡ equal (bare g marks.now) g.mode table.now q r }
 {
-    if is_below(g, marks, table, q, r) {
-        return is_below(g, marks, table, r, q);
-    }
-    false
+    is_below(g, marks, table, q, r) && is_below(g, marks, table, r, q)
 }
 
 // The least state that equals q, which is q itself if none below it does.
 fn chief(g: Arena, marks: &[u8], table: &[u32], q: usize) -> usize
     requires seated { Seated g marks.now table.now }
-    requires q_lt_states { q < g.states }
+    requires is_state { q < g.states }
     ensures { result ≡ chief (bare g marks.now) g.mode table.now q }
 {
-    let mut r = 0;
-    while r < q {
+    for r in 0..q {
         if are_equal(g, marks, table, q, r) {
             return r;
         }
-        r += 1;
     }
-    r
+    q
 }
 
 // Writes the class of each state: how many classes there are.
@@ -54,19 +48,16 @@ pub fn number(g: Arena, marks: &[u8], table: &[u32], classes: &mut [u8]) -> usiz
     ensures value { result ≡ class_count (bare g marks.now) g.mode table.now }
     ensures classes_after { classes.new ≡ class_bytes (bare g marks.now) g.mode table.now }
 {
-    let states = g.states;
     // how many classes have a least member below each state
     let mut earlier = [0u8; Automaton::STATES];
     let mut count = 0u8;
-    let mut q = 0;
-    while q < states {
+    for (q, class) in classes.iter_mut().enumerate() {
         earlier[q] = count;
         let least = chief(g, marks, table, q);
-        classes[q] = earlier[least];
+        *class = earlier[least];
         if least == q {
             count += 1;
         }
-        q += 1;
     }
-    count as usize
+    usize::from(count)
 }

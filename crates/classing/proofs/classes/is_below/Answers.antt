@@ -16,5 +16,5 @@ bounds-table-b c =
     let bit_lt : c.owed-b.result < layers c.args.g.mode =
     let a = c.args in omega (arith, c.owed-b.ensures, owed_lt a.g.mode (accepts (board) a.q) (accepts (board) a.r)) in
     let inside : index < length c.args.table.now =
-    let a = c.args in seat_lt a.g a.marks.now a.table.now c.requires.seated c.owed-b.result a.q a.r (bit_lt) c.requires.q_lt_states.0 c.requires.q_lt_states.1 in
+    let a = c.args in seat_lt a.g a.marks.now a.table.now c.requires.seated c.owed-b.result a.q a.r (bit_lt) c.requires.are_states.0 c.requires.are_states.1 in
     omega (arith, inside)
