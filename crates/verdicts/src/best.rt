@@ -8,7 +8,7 @@ ghost use Rattle.arena.specs.Arena.{board_in, Ready};
 ghost use Rattle.arena.specs.Seats.{bare, Seated};
 ghost use Rattle.verdicts.specs.Best.{best_of, improved};
 
-use arena::Arena;
+use arena::Game;
 use automaton::wide;
 
 // A move of Blue's: the state that it leads to, and the entry there.
@@ -37,36 +37,29 @@ fn leaves(moves: &[u8], r: usize, a: usize, i: usize) -> bool
 }
 
 // The entry where Blue's move to the state s leads, Red standing on q.
-fn entry_after(g: Arena, marks: &[u8], table: &[u32], b: usize, q: usize, s: usize) -> u32
-    requires seated { Seated g marks.now table.now }
-    requires position { (b < layers g.mode) × (q < g.states) × (s < g.states) }
-    ensures { result ≡ entry_after (bare g marks.now) g.mode table.now b q s }
+fn entry_after(game: &Game, table: &[u32], b: usize, q: usize, s: usize) -> u32
+    requires seated { Seated game.now.arena game.now.marks.now table.now }
+    requires position { (b < layers game.now.arena.mode) × (q < game.now.arena.states) × (s < game.now.arena.states) }
+    ensures { result ≡ entry_after (bare game.now.arena game.now.marks.now) game.now.arena.mode table.now b q s }
 {
-    let states = g.states;
-    let bit = arena::eased(g.mode, marks[s] == 1, b);
+    let states = game.arena.states;
+    let bit = arena::eased(game.arena.mode, game.marks[s] == 1, b);
     table[bit * (states * states) + q * states + s]
 }
 
 // The best of the moves from r by the letter a.
-pub fn scan(
-    g: Arena,
-    marks: &[u8],
-    moves: &[u8],
-    table: &[u32],
-    b: usize,
-    q: usize,
-    r: usize,
-    a: usize,
-) -> Option<Best>
-    requires ready { Ready g marks.now moves.now table.now }
-    requires position { (b < layers g.mode) × (q < g.states) }
-    ensures { result ≡ best_of (entry_after (board_in g marks.now moves.now) g.mode table.now b q) None (targets (board_in g marks.now moves.now) r a) }
+pub fn scan(game: &Game, table: &[u32], b: usize, q: usize, r: usize, a: usize) -> Option<Best>
+    requires ready { Ready game.now.arena game.now.marks.now game.now.moves.now table.now }
+    requires position { (b < layers game.now.arena.mode) × (q < game.now.arena.states) }
+    ensures { let board = board_in game.now.arena game.now.marks.now game.now.moves.now in
+        result ≡ best_of (entry_after board game.now.arena.mode table.now b q) None (targets board r a) }
 {
+    let moves = game.moves;
     let mut best = None;
     for i in 0..moves.len() / 3 {
         if leaves(moves, r, a, i) {
             let s = wide(moves[i * 3 + 2]);
-            best = Some(improve(best, s, entry_after(g, marks, table, b, q, s)));
+            best = Some(improve(best, s, entry_after(game, table, b, q, s)));
         }
     }
     best
