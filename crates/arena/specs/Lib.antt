@@ -2,3 +2,4 @@ pub mod Job
 pub mod Refusals
 pub mod Arena
 pub mod Seats
+pub mod Game

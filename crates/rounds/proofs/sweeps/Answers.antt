@@ -6,7 +6,7 @@ use native.Mathlib.Nat.{zero-add}
 use native.Mathlib.Omega.{arith}
 use Rattle.games.specs.Game.{Game}
 use Rattle.games.proofs.Sweeping.{Sweeping, sweeping_none, sweeping_raised}
-use Rattle.arena.specs.Arena.{board_in, game_in}
+use Rattle.arena.specs.Game.{board, played}
 use Rattle.sweep.proofs.Room.{Lists, Alike, alike_none, alike_more, equipped_again}
 use Rattle.rounds.proofs.Onward.{onward, onward-less, onward-done, bound-most}
 use Rattle.rounds.proofs.sweeps.Goals as goal
@@ -17,7 +17,7 @@ first-raised-requires c =
 
 pub returns-then-raised-eq0 : goal.returns-then-raised-eq0
 returns-then-raised-eq0 c =
-    let game : Game = game_in c.args.g c.args.marks.now c.args.moves.now in
+    let game : Game = played c.args.game.now in
     let left : Lists =
     record {
       table = c.first-raised.new.table;
@@ -33,7 +33,7 @@ returns-then-raised-eq0 c =
 
 pub loop-g-init : goal.loop-g-init
 loop-g-init c =
-    let game : Game = game_in c.args.g c.args.marks.now c.args.moves.now in
+    let game : Game = played c.args.game.now in
     let left : Lists =
     record {
       table = c.first-raised.new.table;
@@ -90,7 +90,7 @@ again-more-requires c =
 
 pub returns-then-more-eq0 : goal.returns-then-more-eq0
 returns-then-more-eq0 c =
-    let game : Game = game_in c.args.g c.args.marks.now c.args.moves.now in
+    let game : Game = played c.args.game.now in
     let left-again : Lists =
     record {
       table = c.again-more.new.table;
@@ -105,7 +105,7 @@ returns-then-more-eq0 c =
 
 pub overflow_add-raised : goal.overflow_add-raised
 overflow_add-raised c =
-    let game : Game = game_in c.args.g c.args.marks.now c.args.moves.now in
+    let game : Game = played c.args.game.now in
     let left-again : Lists =
     record {
       table = c.again-more.new.table;
@@ -118,13 +118,13 @@ overflow_add-raised c =
     let more : 0 < c.again-more.result → Sweeping game (c.loop-g.raised + c.again-more.result) left-again.table = λ h. onward game left-again.table c.loop-g.invariant.2 c.again-more.ensures.value c.again-more.ensures.table_after h in
     omega (
       arith,
-      bound-most (board_in c.args.g c.args.marks.now c.args.moves.now) c.args.g.mode c.requires.equipped.ready.formed,
+      bound-most (board c.args.game.now) c.args.game.now.arena.mode c.requires.equipped.ready.formed,
       sweeping_raised game (c.loop-g.raised + c.again-more.result) left-again.table (more (omega (arith, c.if-more-eq0.false))),
     )
 
 pub loop-g-smaller : goal.loop-g-smaller
 loop-g-smaller c =
-    let game : Game = game_in c.args.g c.args.marks.now c.args.moves.now in
+    let game : Game = played c.args.game.now in
     let left-again : Lists =
     record {
       table = c.again-more.new.table;
@@ -138,7 +138,7 @@ loop-g-smaller c =
 
 pub loop-g-preserved : goal.loop-g-preserved
 loop-g-preserved c =
-    let game : Game = game_in c.args.g c.args.marks.now c.args.moves.now in
+    let game : Game = played c.args.game.now in
     let held : Lists =
     record {
       table = c.loop-g.table;

@@ -7,7 +7,7 @@ use Rattle.automaton.specs.declared.Mode.{Mode}
 use Rattle.automaton.specs.Board.{Board}
 use Rattle.simulation.specs.Position.{pairs}
 use Rattle.simulation.specs.Rules.{game}
-use Rattle.arena.specs.Arena.{board_in}
+use Rattle.arena.specs.Game.{board}
 use Rattle.halves.specs.Rising.{Rising}
 use Rattle.halves.proofs.Rest.{stirred-by}
 use Rattle.sweep.specs.Poised.{Equipped}
@@ -26,10 +26,10 @@ all_columns-requires c =
 
 pub answer-answered-requires : goal.answer-answered-requires
 answer-answered-requires c =
-    let B : Board = board_in c.args.g c.args.marks.now c.args.moves.now in
-    let m : Mode = c.args.g.mode in
+    let B : Board = board c.args.game.now in
+    let m : Mode = c.args.game.now.arena.mode in
     let lent : Lists = lists c.args.table.now c.args.risen.now c.args.rows.now c.args.olds.now c.args.grown.now c.args.columns.now in
-    let With : Lists → Type 0 = λ l. Equipped c.args.g c.args.marks.now c.args.moves.now l.table c.args.acc c.args.into.now c.args.onto.now l.risen l.rows l.olds l.grown l.columns in
+    let With : Lists → Type 0 = λ l. Equipped c.args.game.now l.table c.args.acc c.args.into.now c.args.onto.now l.risen l.rows l.olds l.grown l.columns in
     let pushed : Lists = lists c.challenge-pushed.new.table c.challenge-pushed.new.risen c.challenge-pushed.new.rows c.challenge-pushed.new.olds lent.grown lent.columns in
     let like-pushed : Alike lent pushed = alike c.challenge-pushed.auto.table c.challenge-pushed.auto.risen c.challenge-pushed.auto.rows c.challenge-pushed.auto.olds refl refl in
     let noted : Rising = record { table = pushed.table; risen = pushed.risen; rows = pushed.rows; olds = pushed.olds } in
@@ -43,10 +43,10 @@ answer-answered-requires c =
 
 pub all_rows-requires : goal.all_rows-requires
 all_rows-requires c =
-    let B : Board = board_in c.args.g c.args.marks.now c.args.moves.now in
-    let m : Mode = c.args.g.mode in
+    let B : Board = board c.args.game.now in
+    let m : Mode = c.args.game.now.arena.mode in
     let lent : Lists = lists c.args.table.now c.args.risen.now c.args.rows.now c.args.olds.now c.args.grown.now c.args.columns.now in
-    let With : Lists → Type 0 = λ l. Equipped c.args.g c.args.marks.now c.args.moves.now l.table c.args.acc c.args.into.now c.args.onto.now l.risen l.rows l.olds l.grown l.columns in
+    let With : Lists → Type 0 = λ l. Equipped c.args.game.now l.table c.args.acc c.args.into.now c.args.onto.now l.risen l.rows l.olds l.grown l.columns in
     let pushed : Lists = lists c.challenge-pushed.new.table c.challenge-pushed.new.risen c.challenge-pushed.new.rows c.challenge-pushed.new.olds lent.grown lent.columns in
     let like-pushed : Alike lent pushed = alike c.challenge-pushed.auto.table c.challenge-pushed.auto.risen c.challenge-pushed.auto.rows c.challenge-pushed.auto.olds refl refl in
     let noted : Rising = record { table = pushed.table; risen = pushed.risen; rows = pushed.rows; olds = pushed.olds } in
@@ -59,7 +59,7 @@ all_rows-requires c =
 pub overflow_add-result : goal.overflow_add-result
 overflow_add-result c =
     let lent : Lists = lists c.args.table.now c.args.risen.now c.args.rows.now c.args.olds.now c.args.grown.now c.args.columns.now in
-    let With : Lists → Type 0 = λ l. Equipped c.args.g c.args.marks.now c.args.moves.now l.table c.args.acc c.args.into.now c.args.onto.now l.risen l.rows l.olds l.grown l.columns in
+    let With : Lists → Type 0 = λ l. Equipped c.args.game.now l.table c.args.acc c.args.into.now c.args.onto.now l.risen l.rows l.olds l.grown l.columns in
     let pushed : Lists = lists c.challenge-pushed.new.table c.challenge-pushed.new.risen c.challenge-pushed.new.rows c.challenge-pushed.new.olds lent.grown lent.columns in
     let like-pushed : Alike lent pushed = alike c.challenge-pushed.auto.table c.challenge-pushed.auto.risen c.challenge-pushed.auto.rows c.challenge-pushed.auto.olds refl refl in
     let wiped : Lists = lists pushed.table pushed.risen pushed.rows pushed.olds c.all_columns.new.grown c.all_columns.new.columns in
@@ -74,10 +74,10 @@ overflow_add-result c =
 
 pub returns : goal.returns
 returns c =
-    let B : Board = board_in c.args.g c.args.marks.now c.args.moves.now in
-    let m : Mode = c.args.g.mode in
+    let B : Board = board c.args.game.now in
+    let m : Mode = c.args.game.now.arena.mode in
     let lent : Lists = lists c.args.table.now c.args.risen.now c.args.rows.now c.args.olds.now c.args.grown.now c.args.columns.now in
-    let With : Lists → Type 0 = λ l. Equipped c.args.g c.args.marks.now c.args.moves.now l.table c.args.acc c.args.into.now c.args.onto.now l.risen l.rows l.olds l.grown l.columns in
+    let With : Lists → Type 0 = λ l. Equipped c.args.game.now l.table c.args.acc c.args.into.now c.args.onto.now l.risen l.rows l.olds l.grown l.columns in
     let pushed : Lists = lists c.challenge-pushed.new.table c.challenge-pushed.new.risen c.challenge-pushed.new.rows c.challenge-pushed.new.olds lent.grown lent.columns in
     let like-pushed : Alike lent pushed = alike c.challenge-pushed.auto.table c.challenge-pushed.auto.risen c.challenge-pushed.auto.rows c.challenge-pushed.auto.olds refl refl in
     let half : Halved (game B m) 0 (pairs B m) lent.table pushed.table = spoilers_half c.requires.equipped.ready c.challenge-pushed.ensures.halved in
