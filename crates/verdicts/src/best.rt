@@ -4,7 +4,7 @@ ghost use Rattle.automaton.specs.Board.{from, letter};
 ghost use Rattle.simulation.specs.Answers.{entry_after};
 ghost use Rattle.simulation.specs.Moves.{targets};
 ghost use Rattle.simulation.specs.Position.{layers};
-ghost use Rattle.arena.specs.Arena.{board_in, Ready};
+ghost use Rattle.arena.specs.Game.{board, Playable};
 ghost use Rattle.arena.specs.Seats.{bare, Seated};
 ghost use Rattle.verdicts.specs.Best.{best_of, improved};
 
@@ -49,10 +49,9 @@ fn entry_after(game: &Game, table: &[u32], b: usize, q: usize, s: usize) -> u32
 
 // The best of the moves from r by the letter a.
 pub fn scan(game: &Game, table: &[u32], b: usize, q: usize, r: usize, a: usize) -> Option<Best>
-    requires ready { Ready game.now.arena game.now.marks.now game.now.moves.now table.now }
+    requires playable { Playable game.now table.now }
     requires position { (b < layers game.now.arena.mode) × (q < game.now.arena.states) }
-    ensures { let board = board_in game.now.arena game.now.marks.now game.now.moves.now in
-        result ≡ best_of (entry_after board game.now.arena.mode table.now b q) None (targets board r a) }
+    ensures { result ≡ best_of (entry_after (board game.now) game.now.arena.mode table.now b q) None (targets (board game.now) r a) }
 {
     let moves = game.moves;
     let mut best = None;

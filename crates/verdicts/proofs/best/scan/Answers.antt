@@ -10,15 +10,16 @@ use Rattle.verdicts.proofs.best.scan.Goals as goal
 pub loop-i-preserved : goal.loop-i-preserved
 loop-i-preserved c =
     let a = c.args in
+    let ms = a.game.now.moves.now in
     let i = c.loop-i.i in
-    let f = entry a.g a.marks.now a.moves.now a.table.now a.b a.q in
-    let inside : i * 3 + 2 < length a.moves.now = omega arith in
-    let left : Option Best → Option Best = λ best. best_of f best (goals a.r a.a (drop ((i + 1) * 3) a.moves.now)) in
+    let f = entry a.game.now a.table.now a.b a.q in
+    let inside : i * 3 + 2 < length ms = omega arith in
+    let left : Option Best → Option Best = λ best. best_of f best (goals a.r a.a (drop ((i + 1) * 3) ms)) in
     elim c.if-leaves.branch [
       | then-leaves w ↦
           let led = w.entry_after.ensures ∙ ap f w.wide-s.ensures in
           ap left (w.best-is ∙ ap Some (w.improve.ensures ∙ (λ j. improved c.loop-i.best (w.wide-s.ensures j) (led j))))
-          ∙ scan-taken f c.loop-i.best a.r a.a a.moves.now i inside (sym c.leaves.ensures ∙ w.if-leaves.true)
+          ∙ scan-taken f c.loop-i.best a.r a.a ms i inside (sym c.leaves.ensures ∙ w.if-leaves.true)
           ∙ c.loop-i.invariant
-      | else-leaves w ↦ ap left w.best-is ∙ scan_passed f c.loop-i.best a.r a.a a.moves.now i inside (sym c.leaves.ensures ∙ w.if-leaves.false) ∙ c.loop-i.invariant
+      | else-leaves w ↦ ap left w.best-is ∙ scan_passed f c.loop-i.best a.r a.a ms i inside (sym c.leaves.ensures ∙ w.if-leaves.false) ∙ c.loop-i.invariant
     ]
