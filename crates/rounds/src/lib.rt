@@ -43,7 +43,7 @@ fn sweeps(
         return 0;
     }
     let mut last = raised;
-    loop {
+    'sweeping: loop {
         let more = sweep::again(
             game, acc, into, onto, table, risen, rows, olds, grown, columns, last,
         );

@@ -52,7 +52,7 @@ module _ (B : Board) (m : Mode) (F : Formed B) where
 
 -- ---- the same of an arena and the lent bytes
 
-module _ {g : Game} {t : List ℕ} (ready : Playable g t) where
+module _ (g : Game) {t : List ℕ} (ready : Playable g t) where
   -- a half of a sweep raises no more than the entries that there are
   pub rose-few : (u : List ℕ) → rose t u (length t) ≤ 139264
   rose-few u = omega (arith, rose-most t u (length t), ready.entries, positions-most (board g) ready.formed g.arena.mode)

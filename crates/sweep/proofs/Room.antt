@@ -54,7 +54,7 @@ alike_more a b = record {
 pub equipped_again : {g : Game} {into onto : List ℕ} {acc : ℕ} {l m : Lists}
     → Equipped g l.table acc into onto l.risen l.rows l.olds l.grown l.columns → Alike l m
     → Equipped g m.table acc into onto m.risen m.rows m.olds m.grown m.columns
-equipped_again {g} {marks} {moves} {l = l} {m = m} e a = record {
+equipped_again {g} {l = l} {m = m} e a = record {
   ready = ready-again g.arena g.marks.now g.moves.now l.table m.table e.ready a.like_table;
   accepting = e.accepting;
   before = e.before;

@@ -9,11 +9,11 @@ use Rattle.sweep.specs.Poised.{Poised}
 use Rattle.sweep.proofs.Room.{lists, Alike}
 use Rattle.rounds.proofs.sweeps.Given as goal
 
-abbrev pub invariant-loop-g : goal.invariant-loop-g
-invariant-loop-g l =
+abbrev pub invariant-sweeping : goal.invariant-sweeping
+invariant-sweeping l =
     Alike (lists l.initial.table l.initial.risen l.initial.rows l.initial.olds l.initial.grown l.initial.columns) (lists l.table l.risen l.rows l.olds l.grown l.columns)
     × Poised (board l.game) l.game.arena.mode l.table l.risen l.grown l.columns
     × Sweeping (played l.game) l.raised l.table
 
-abbrev pub decreases-loop-g : goal.decreases-loop-g
-decreases-loop-g l = bound (played l.game) - total l.table
+abbrev pub decreases-sweeping : goal.decreases-sweeping
+decreases-sweeping l = bound (played l.game) - total l.table

@@ -84,8 +84,8 @@ overflow_add-result c =
     let grown : Growing = record { table = answered.table; grown = answered.grown; columns = answered.columns } in
     let both : Answered B m unmarked grown (c.dead_ends-ended.result + c.answer-answered.result) = part_join c.requires.equipped.ready.formed opened.ready.entries c.dead_ends-ended.ensures.answered_in c.answer-answered.ensures.answered_in in
     let few : (c.begin-begun.result ≤ 139264) × (c.dead_ends-ended.result + c.answer-answered.result ≤ 139264) = (
-      omega (arith, c.begin-begun.ensures.value, rose-few c.requires.equipped.ready begun.table),
-      omega (arith, both.count, rose-few opened.ready answered.table),
+      omega (arith, c.begin-begun.ensures.value, rose-few c.args.game.now c.requires.equipped.ready begun.table),
+      omega (arith, both.count, rose-few c.args.game.now opened.ready answered.table),
     ) in
     omega (arith, few.0, few.1)
 
@@ -104,8 +104,8 @@ overflow_add-result-2 c =
     let grown : Growing = record { table = answered.table; grown = answered.grown; columns = answered.columns } in
     let both : Answered B m unmarked grown (c.dead_ends-ended.result + c.answer-answered.result) = part_join c.requires.equipped.ready.formed opened.ready.entries c.dead_ends-ended.ensures.answered_in c.answer-answered.ensures.answered_in in
     let few : (c.begin-begun.result ≤ 139264) × (c.dead_ends-ended.result + c.answer-answered.result ≤ 139264) = (
-      omega (arith, c.begin-begun.ensures.value, rose-few c.requires.equipped.ready begun.table),
-      omega (arith, both.count, rose-few opened.ready answered.table),
+      omega (arith, c.begin-begun.ensures.value, rose-few c.args.game.now c.requires.equipped.ready begun.table),
+      omega (arith, both.count, rose-few c.args.game.now opened.ready answered.table),
     ) in
     omega (arith, few.0, few.1)
 
@@ -128,10 +128,10 @@ returns c =
     let grown : Growing = record { table = answered.table; grown = answered.grown; columns = answered.columns } in
     let half : Halved (game B m) (pairs B m) (positions B m) begun.table answered.table =
     rest_halved B m c.requires.equipped.ready.formed unmarked marked answered.table opened.ready.entries
-    c.dead_ends-ended.ensures.answered_in (duplicators_half still.ready c.answer-answered.ensures.halved) in
+    c.dead_ends-ended.ensures.answered_in (duplicators_half c.args.game.now still.ready c.answer-answered.ensures.halved) in
     let both : Answered B m unmarked grown (c.dead_ends-ended.result + c.answer-answered.result) = part_join c.requires.equipped.ready.formed opened.ready.entries c.dead_ends-ended.ensures.answered_in c.answer-answered.ensures.answered_in in
     let left : Lists = lists answered.table c.all_rows.new.risen c.all_rows.new.rows c.all_rows.new.olds answered.grown answered.columns in
-    let done = sweep-done c.requires.equipped.ready begun.table answered.table left.risen answered.grown answered.columns
-    (spoilers_half c.requires.equipped.ready c.begin-begun.ensures.halved) half c.begin-begun.ensures.value (sym both.count)
+    let done = sweep-done c.args.game.now c.requires.equipped.ready begun.table answered.table left.risen answered.grown answered.columns
+    (spoilers_half c.args.game.now c.requires.equipped.ready c.begin-begun.ensures.halved) half c.begin-begun.ensures.value (sym both.count)
     (λ v. omega (arith, zeros v)) both.marked c.all_rows.ensures in
     record { value = omega (arith, done.0); table_after = done.1.0; poised = done.1.1 }
