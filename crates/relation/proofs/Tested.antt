@@ -3,6 +3,7 @@ use mathlib.Core.Path.{◌≡◌, refl, sym, ap, ◌∙◌}
 use mathlib.Core.Bool.{Bool, true, false, cond}
 use mathlib.Core.List.{List}
 use Prim.Native.Nat.{ℕ}
+use Rattle.std.proofs.Common.{Option, Some, None}
 use native.Mathlib.Omega.{arith}
 use lib.Dec.{ltb}
 use lib.ListN.{length}
@@ -14,6 +15,7 @@ use Rattle.automaton.proofs.One.{refused-not, unless-refused}
 use Rattle.arena.specs.Job.{Job, game_of}
 use Rattle.arena.specs.Refusals.{open_fault}
 use Rattle.entries.specs.Found.{restless}
+use Rattle.table.specs.Answers.{at_rest}
 use Rattle.table.specs.Calls.{entry_fault, rested, resting}
 use Rattle.relation.specs.Calls.{rest_fault}
 
@@ -57,3 +59,8 @@ module _ (j : Job) (t : List ℕ) (o : open_fault j (length t) ≡ none) where
 
   pub rest-one : valued 1 ≡ resting j t → (entry_fault (game_of j) t ≡ none) × (rest_fault (game_of j) t ≡ none)
   rest-one e = told-one (entry_fault (game_of j) t) (ltb lowest (game_of j).P) lowest (e ∙ rest-is)
+
+  -- whatever it found, no entry is above T
+  pub rest-tells : (lowest : Option ℕ) → at_rest lowest ≡ resting j t → entry_fault (game_of j) t ≡ none
+  rest-tells (Some v) e = (rest-placed v e).0
+  rest-tells None e = (rest-one e).0
