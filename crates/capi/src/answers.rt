@@ -1,7 +1,7 @@
 // The answers of the calls in numbers: what each kind of value tells, and what a refusal does.
 ghost use Rattle.std.specs.Prelude.{◌≡◌};
 ghost use Rattle.automaton.specs.Answer as numbers;
-ghost use Rattle.table.specs.Answers.{at_rest, rose};
+ghost use Rattle.table.specs.Answers.{found, rose};
 ghost use Rattle.quotient.specs.Answers.{merged};
 ghost use Rattle.capi.specs.Exported.{given};
 
@@ -45,7 +45,7 @@ impl Told for bool {
 
 // The lowest position that is not at rest.
 impl Told for Option<usize> {
-    ghost told = { at_rest };
+    ghost told = { found };
 
     fn tell(self) -> Answer {
         match self {

@@ -15,7 +15,7 @@ use Rattle.automaton.proofs.One.{refused-not, unless-refused}
 use Rattle.arena.specs.Job.{Job, game_of}
 use Rattle.arena.specs.Refusals.{open_fault}
 use Rattle.entries.specs.Found.{restless}
-use Rattle.table.specs.Answers.{at_rest}
+use Rattle.table.specs.Answers.{found}
 use Rattle.table.specs.Calls.{entry_fault, rested, resting}
 use Rattle.relation.specs.Calls.{rest_fault}
 
@@ -61,6 +61,6 @@ module _ (j : Job) (t : List ℕ) (o : open_fault j (length t) ≡ none) where
   rest-one e = told-one (entry_fault (game_of j) t) (ltb lowest (game_of j).P) lowest (e ∙ rest-is)
 
   -- whatever it found, no entry is above T
-  pub rest-tells : (lowest : Option ℕ) → at_rest lowest ≡ resting j t → entry_fault (game_of j) t ≡ none
+  pub rest-tells : (lowest : Option ℕ) → found lowest ≡ resting j t → entry_fault (game_of j) t ≡ none
   rest-tells (Some v) e = (rest-placed v e).0
   rest-tells None e = (rest-one e).0

@@ -16,35 +16,29 @@ pub fn relation(job: &Job, table: &[u32], out: &mut [u8]) -> Result<usize, Refus
     ensures result_value { answered valued result ≡ (relating job.now table.now out.old).answer }
     ensures out_after { out.new ≡ (relating job.now table.now out.old).left }
 {
-    let g = arena::for_table(job, table.len())?;
+    let game = Game::for_table(job, table.len())?;
     if let Some(lowest) = table::rest(job, table)? {
         return Err(Refusal::NotAtRest(lowest));
     }
-    if out.len() != g.states * g.states {
+    let states = game.arena.states;
+    if out.len() != states * states {
         return Err(Refusal::OutputLength);
     }
-    Ok(verdicts::pairs::fill(g, job.marks, table, out))
+    Ok(verdicts::pairs::fill(game.arena, game.marks, table, out))
 }
 
 // Blue's reply at a Duplicator's position that is not lost: the lowest numbered state among the moves to the least entry. Refusals 1 to 15.
 pub fn reply(job: &Job, table: &[u32], position: usize) -> Result<usize, Refusal>
     ensures { answered valued result ≡ replying job.now table.now position }
 {
-    let arena = arena::for_table(job, table.len())?;
+    let game = Game::for_table(job, table.len())?;
     let restless = table::rest(job, table)?;
     if table.len() <= position {
         return Err(Refusal::PositionNumber);
     }
     match restless {
         Some(lowest) => Err(Refusal::NotAtRest(lowest)),
-        None => {
-            let game = Game {
-                arena,
-                marks: job.marks,
-                moves: job.moves,
-            };
-            reply_at(&game, table, position)
-        }
+        None => reply_at(&game, table, position),
     }
 }
 
