@@ -6,4 +6,4 @@ use Rattle.arena.specs.Seats.{bare}
 use Rattle.classing.proofs.classes.chief.Given as goal
 
 abbrev pub invariant-loop-r : goal.invariant-loop-r
-invariant-loop-r l = first (equal (bare l.g l.marks) l.g.mode l.table l.q) l.r (l.q - l.r) ≡ chief (bare l.g l.marks) l.g.mode l.table l.q
+invariant-loop-r l = first (equal (bare l.seats.arena l.seats.marks.now) l.seats.arena.mode l.seats.table.now l.q) l.r (l.q - l.r) ≡ chief (bare l.seats.arena l.seats.marks.now) l.seats.arena.mode l.seats.table.now l.q

@@ -15,25 +15,25 @@ use Rattle.classing.proofs.classes.number.Goals as goal
 pub bounds-earlier-least : goal.bounds-earlier-least
 bounds-earlier-least c =
     let a = c.args in
-    let least = first-lowest (equal (bare a.g a.marks.now) a.g.mode a.table.now c.loop-q.q) 0 c.loop-q.q in
+    let least = first-lowest (equal (bare a.seats.now.arena a.seats.now.marks.now) a.seats.now.arena.mode a.seats.now.table.now c.loop-q.q) 0 c.loop-q.q in
     omega (arith, least.most)
 
 pub overflow_add-count : goal.overflow_add-count
 overflow_add-count c =
     let a = c.args in
-    let least = chief (bare a.g a.marks.now) a.g.mode a.table.now in
+    let least = chief (bare a.seats.now.arena a.seats.now.marks.now) a.seats.now.arena.mode a.seats.now.table.now in
     omega (arith, count_most (λ q. bit (eqb (least q) q)) (λ q. bit-most (eqb (least q) q)) c.loop-q.q)
 
 pub loop-q-preserved : goal.loop-q-preserved
 loop-q-preserved c =
     let a = c.args in
     let q = c.loop-q.q in
-    let board : Board = bare a.g a.marks.now in
-    let least : ℕ → ℕ = chief board a.g.mode a.table.now in
-    let leading : ℕ → ℕ = leads (equal board a.g.mode a.table.now) in
-    let class : ℕ → ℕ = class_of board a.g.mode a.table.now in
+    let board : Board = bare a.seats.now.arena a.seats.now.marks.now in
+    let least : ℕ → ℕ = chief board a.seats.now.arena.mode a.seats.now.table.now in
+    let leading : ℕ → ℕ = leads (equal board a.seats.now.arena.mode a.seats.now.table.now) in
+    let class : ℕ → ℕ = class_of board a.seats.now.arena.mode a.seats.now.table.now in
     let counts : List ℕ = set c.loop-q.earlier q c.loop-q.count in
-    let lowest = first-lowest (equal board a.g.mode a.table.now q) 0 q in
+    let lowest = first-lowest (equal board a.seats.now.arena.mode a.seats.now.table.now q) 0 q in
     let risen : c.if-least-q.count ≡ leading q + c.loop-q.count = elim c.if-least-q.branch [
       | then-least-q w ↦ let one : leading q ≡ 1 = ap bit (eq-eqb (least q) q (sym c.chief-least.ensures ∙ w.if-least-q.true)) in omega arith
       | else-least-q w ↦ let none : leading q ≡ 0 = ap bit (ne_eqb (least q) q (λ e. w.if-least-q.false (c.chief-least.ensures ∙ e))) in omega arith

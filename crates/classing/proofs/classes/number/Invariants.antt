@@ -10,7 +10,7 @@ use Rattle.classing.proofs.classes.number.Given as goal
 abbrev pub invariant-loop-q : goal.invariant-loop-q
 invariant-loop-q l = record {
   sized : length l.earlier ≡ 64;
-  counted : l.count ≡ count (leads (equal (bare l.g l.marks) l.g.mode l.table)) l.q;
-  earlier : (k : ℕ) → k < l.q → get_or l.earlier k 0 ≡ count (leads (equal (bare l.g l.marks) l.g.mode l.table)) k;
-  written : l.classes ≡ map (class_of (bare l.g l.marks) l.g.mode l.table) (ascending 0 l.q) ++ drop l.q l.initial.classes;
+  counted : l.count ≡ count (leads (equal (bare l.seats.arena l.seats.marks.now) l.seats.arena.mode l.seats.table.now)) l.q;
+  earlier : (k : ℕ) → k < l.q → get_or l.earlier k 0 ≡ count (leads (equal (bare l.seats.arena l.seats.marks.now) l.seats.arena.mode l.seats.table.now)) k;
+  written : l.classes ≡ map (class_of (bare l.seats.arena l.seats.marks.now) l.seats.arena.mode l.seats.table.now) (ascending 0 l.q) ++ drop l.q l.initial.classes;
 }

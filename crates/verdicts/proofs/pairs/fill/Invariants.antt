@@ -12,4 +12,4 @@ byte g marks t i = byte_at (bare g marks) g.mode t i
 
 abbrev pub invariant-loop-i : goal.invariant-loop-i
 invariant-loop-i l =
-    (l.out ≡ map (byte l.g l.marks l.table) (ascending 0 l.i) ++ drop l.i l.initial.out) × (l.ones ≡ count (byte l.g l.marks l.table) l.i)
+    (l.out ≡ map (byte l.seats.arena l.seats.marks.now l.seats.table.now) (ascending 0 l.i) ++ drop l.i l.initial.out) × (l.ones ≡ count (byte l.seats.arena l.seats.marks.now l.seats.table.now) l.i)
