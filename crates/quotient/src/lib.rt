@@ -9,7 +9,7 @@ ghost use Rattle.quotient.specs.Admitted.{admitted};
 ghost use Rattle.quotient.specs.Answers.{merged};
 ghost use Rattle.quotient.specs.Calls.{buffers, merges, merging, quotienting};
 
-use arena::{Arena, Game, Job};
+use arena::{Arena, Game, Job, Seating};
 use automaton::{Mode, Refusal, wide};
 
 // How many classes and moves a quotient has, and the start's class.
@@ -84,7 +84,12 @@ fn merge(
     let states = game.arena.states;
     let letters = game.arena.letters;
     let moves = game.moves;
-    let count = classing::classes::number(game.arena, game.marks, table, classes);
+    let seats = Seating {
+        arena: game.arena,
+        marks: game.marks,
+        table,
+    };
+    let count = classing::classes::number(&seats, classes);
     classing::written::fill_marks(count, game.marks, classes, classmarks);
     let mut seen = [0u8; triples::TRIPLES];
     classing::written::mark_images(states, letters, classes, moves, &mut seen);

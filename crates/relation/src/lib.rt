@@ -8,7 +8,7 @@ ghost use Rattle.simulation.specs.Answers.{reply_at};
 ghost use Rattle.arena.specs.Game.{board, Playable};
 ghost use Rattle.relation.specs.Calls.{relating, replying};
 
-use arena::{Game, Job};
+use arena::{Game, Job, Seating};
 use automaton::Refusal;
 
 // Writes a byte for each pair of states, 1 if the table calls it related: the number of ones. Refusals 1 to 10, 12 and 16.
@@ -24,7 +24,12 @@ pub fn relation(job: &Job, table: &[u32], out: &mut [u8]) -> Result<usize, Refus
     if out.len() != states * states {
         return Err(Refusal::OutputLength);
     }
-    Ok(verdicts::pairs::fill(game.arena, game.marks, table, out))
+    let seats = Seating {
+        arena: game.arena,
+        marks: game.marks,
+        table,
+    };
+    Ok(verdicts::pairs::fill(&seats, out))
 }
 
 // Blue's reply at a Duplicator's position that is not lost: the lowest numbered state among the moves to the least entry. Refusals 1 to 15.

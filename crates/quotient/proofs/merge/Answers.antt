@@ -44,10 +44,10 @@ module _ (g : Game) (t : List ℕ) (R : Playable g t) (classes : List ℕ) (e : 
       (λ i. padded (l i) (map (mark_in g.marks.now (classes-are i)) (ascending 0 ((n ∙ bare-count g.arena g.marks.now g.moves.now t) i))))
       ∙ ap (padded g.arena.states) (marks_are (board g) m t R.formed)
 
-pub number-count-requires : goal.number-count-requires
-number-count-requires c =
+pub invariant_of-seats : goal.invariant_of-seats
+invariant_of-seats c =
     let g = c.args.game.now in
-    record { seated = seated g.arena g.marks.now g.moves.now c.args.table.now c.requires.playable; classes_len = c.requires.sized.0 }
+    record { seated = seated g.arena g.marks.now g.moves.now c.args.table.now c.requires.playable }
 
 pub fill_marks-requires-clause-count_in_bounds : goal.fill_marks-requires-clause-count_in_bounds
 fill_marks-requires-clause-count_in_bounds c =

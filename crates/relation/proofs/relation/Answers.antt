@@ -62,11 +62,11 @@ returns-then-out-states c =
     let ends = both (sym (relating_misfit j t o a.out.now rests (λ e. c.if-out-states.true (e ∙ sym states)))) in
     record { result_value = ends.0; out_after = ends.1 }
 
-pub fill-requires-clause-seated : goal.fill-requires-clause-seated
-fill-requires-clause-seated c =
+pub invariant_of-seats : goal.invariant_of-seats
+invariant_of-seats c =
     let a = c.args in
     let g = c.in_ok-game.game in
-    seated g.arena g.marks.now g.moves.now a.table.now (opens_playable a.job.now a.table.now g c.in_ok-game.ensures)
+    record { seated = seated g.arena g.marks.now g.moves.now a.table.now (opens_playable a.job.now a.table.now g c.in_ok-game.ensures) }
 
 pub returns : goal.returns
 returns c =
