@@ -1,12 +1,5 @@
 -- What `table::rest` tells the calls that need a table at rest: which of the refusals 10 and 12 applies, if one does.
-use mathlib.Core.Path.{◌≡◌, refl, sym, ap, ◌∙◌}
-use mathlib.Core.Bool.{Bool, true, false, cond}
-use mathlib.Core.List.{List}
-use Prim.Native.Nat.{ℕ}
-use Rattle.std.proofs.Common.{Option, Some, None}
-use native.Mathlib.Omega.{arith}
-use lib.Dec.{ltb}
-use lib.ListN.{length}
+use Rattle.std.proofs.Common.{◌≡◌, refl, sym, ap, ◌∙◌, Bool, true, false, cond, List, ℕ, Option, Some, None, arith, ltb, length}
 use Rattle.automaton.specs.declared.Refusal.{Refusal}
 use Rattle.automaton.specs.declared.Refusal.TheVariants.{NotAtRest}
 use Rattle.automaton.specs.Answer.{Answer, valued, placed, value, refused, Fault, none, fault, fails, unless}
