@@ -15,15 +15,15 @@ pub const KEYS: usize = Automaton::STATES * Automaton::LETTERS + 1;
 
 // A game with the places where the keys of its moves begin.
 #[derive(Clone, Copy)]
-pub struct Index<'a> {
-    pub game: Game<'a>,
-    pub begins: &'a [usize],
+pub struct Index<'g, 'b> {
+    pub game: Game<'g>,
+    pub begins: &'b [usize],
     ghost indexed: { Indexed game.arena.states game.arena.letters game.moves.now begins.now },
 }
 
-impl<'a> Index<'a> {
+impl<'g, 'b> Index<'g, 'b> {
     // The index of a game, written into lent places.
-    pub fn filled(game: &Game<'a>, begins: &'a mut [usize]) -> Index<'a>
+    pub fn filled(game: &Game<'g>, begins: &'b mut [usize]) -> Index<'g, 'b>
         requires formed { Formed (board game.now) }
         requires keys_have_places { KEYS ≤ length begins.old }
         ensures { result.game ≡ game.now }

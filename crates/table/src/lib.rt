@@ -18,8 +18,8 @@ pub fn clear(job: &Job, table: &mut [u32]) -> Result<(), Refusal>
     ensures result_value { answered done result ≡ (clearing job.now table.old).answer }
     ensures table_after { table.new ≡ (clearing job.now table.old).left }
 {
-    let arena = arena::for_table(job, table.len())?;
-    entries::clear(table, arena.pairs);
+    let game = Game::for_table(job, table.len())?;
+    entries::clear(table, game.arena.pairs);
     Ok(())
 }
 
@@ -28,12 +28,7 @@ pub fn lift(job: &Job, table: &mut [u32], position: usize) -> Result<bool, Refus
     ensures result_value { answered rose result ≡ (lifting job.now table.old position).answer }
     ensures table_after { table.new ≡ (lifting job.now table.old position).left }
 {
-    let arena = arena::for_table(job, table.len())?;
-    let game = Game {
-        arena,
-        marks: job.marks,
-        moves: job.moves,
-    };
+    let game = Game::for_table(job, table.len())?;
     lift_in(&game, table, position)
 }
 
@@ -50,7 +45,7 @@ fn lift_in(game: &Game, table: &mut [u32], position: usize) -> Result<bool, Refu
         return Err(Refusal::PositionNumber);
     }
     let mut begins = [0usize; KEYS];
-    let index = Index::filled(game, &mut begins);
+    let index = Index::filled(game, &mut begins[..]);
     Ok(entries::lift(&index, table, position))
 }
 
@@ -58,12 +53,7 @@ fn lift_in(game: &Game, table: &mut [u32], position: usize) -> Result<bool, Refu
 pub fn rest(job: &Job, table: &[u32]) -> Result<Option<usize>, Refusal>
     ensures { answered found result ≡ resting job.now table.now }
 {
-    let arena = arena::for_table(job, table.len())?;
-    let game = Game {
-        arena,
-        marks: job.marks,
-        moves: job.moves,
-    };
+    let game = Game::for_table(job, table.len())?;
     rest_in(&game, table)
 }
 
@@ -76,7 +66,7 @@ fn rest_in(game: &Game, table: &[u32]) -> Result<Option<usize>, Refusal>
         return Err(Refusal::AboveCeiling(above));
     }
     let mut begins = [0usize; KEYS];
-    let index = Index::filled(game, &mut begins);
+    let index = Index::filled(game, &mut begins[..]);
     Ok(entries::first_restless(&index, table))
 }
 
@@ -85,12 +75,7 @@ pub fn settle(job: &Job, table: &mut [u32]) -> Result<usize, Refusal>
     ensures result_value { answered valued result ≡ (settling job.now table.old).answer }
     ensures table_after { table.new ≡ (settling job.now table.old).left }
 {
-    let arena = arena::for_table(job, table.len())?;
-    let game = Game {
-        arena,
-        marks: job.marks,
-        moves: job.moves,
-    };
+    let game = Game::for_table(job, table.len())?;
     Ok(settle_in(&game, table))
 }
 
