@@ -24,11 +24,6 @@ overflow_add-raised c =
 pub again-last-requires : goal.again-last-requires
 again-last-requires c = record { equipped = equipped_again c.requires.equipped c.loop-last.invariant.0; poised = c.loop-last.invariant.1 }
 
-pub loop-last-smaller : goal.loop-last-smaller
-loop-last-smaller c =
-    let s = c.loop-last.invariant.2.more (omega arith) in
-    onward-less (played c.args.game.now) c.again-last.new.table s c.again-last.ensures.value c.again-last.ensures.table_after (omega arith)
-
 pub loop-last-preserved : goal.loop-last-preserved
 loop-last-preserved c =
     let s = c.loop-last.invariant.2.more (omega arith) in
@@ -37,6 +32,11 @@ loop-last-preserved c =
       again.ensures.poised_again,
       onward (played c.args.game.now) again.new.table s again.ensures.value again.ensures.table_after,
     )
+
+pub loop-last-smaller : goal.loop-last-smaller
+loop-last-smaller c =
+    let s = c.loop-last.invariant.2.more (omega arith) in
+    onward-less (played c.args.game.now) c.again-last.new.table s c.again-last.ensures.value c.again-last.ensures.table_after (omega arith)
 
 pub returns : goal.returns
 returns c =
