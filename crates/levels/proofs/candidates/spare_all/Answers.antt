@@ -1,15 +1,11 @@
 -- `levels::candidates::spare_all` meets its contract: the first a words are spared, the others as they were, and `any` has what is left.
-use Rattle.std.proofs.Common.{◌≡◌, ◌∙◌, ℕ, ◌<◌, length, length-take-le, get_or-set_other, get_or-take, arith}
-use Rattle.std.proofs.Math.ListN.{get_or-append}
+use Rattle.std.proofs.Common.{◌≡◌, ◌∙◌, ℕ, length-take-le, get_or-set_other, arith}
 use Rattle.games.specs.Game.{at}
 use Rattle.words.specs.Word.{In}
 use Rattle.words.proofs.Sets.{joined_in_left, joined_in_right}
 use Rattle.levels.specs.Candidates.{Spared}
 use Rattle.levels.proofs.Stored.{stored}
 use Rattle.levels.proofs.candidates.spare_all.Goals as goal
-
-pub loop-a-init : goal.loop-a-init
-loop-a-init c = (λ i h. absurd (omega arith), λ i _ h. get_or-take _ _ _ _ h, λ i r h. absurd (omega arith))
 
 pub loop-a-preserved : goal.loop-a-preserved
 loop-a-preserved c =
@@ -22,13 +18,3 @@ loop-a-preserved c =
       λ i r h. stored (λ i w. (r : ℕ) → In r w → In r c.join-any.result) words a left (omega arith)
           (λ i h r x. joined_in_left c.join-any.ensures r (c.loop-a.invariant.2 i r h x)) (λ r x. joined_in_right c.join-any.ensures r x) i h r,
     )
-
-pub returns-clause-all_spared : goal.returns-clause-all_spared
-returns-clause-all_spared c = λ a h.
-    let written : a < length c.loop-a.word-items = omega (arith, length-take-le c.args.k c.args.found.now) in
-    rw (get_or-append c.loop-a.word-items _ 0 a written) (c.loop-a.invariant.0 a (omega arith))
-
-pub returns-clause-all_in : goal.returns-clause-all_in
-returns-clause-all_in c = λ a r h.
-    let written : a < length c.loop-a.word-items = omega (arith, length-take-le c.args.k c.args.found.now) in
-    rw (get_or-append c.loop-a.word-items _ 0 a written) (c.loop-a.invariant.2 a r (omega arith))
