@@ -10,7 +10,6 @@ ghost use Rattle.duplicators.specs.Rows.{LayerStill, LayerStirred, Prepared, Red
 use super::rows::answer_row;
 use super::seats::Row;
 use arena::Game;
-use levels::row::lesser;
 
 // The states whose entries have risen, as Duplicator sees them: of `plain` those that are in `others`, and of `marked` those that accept.
 fn fresh_in(acc: u64, others: u64, plain: u64, marked: u64) -> u64
@@ -48,7 +47,7 @@ fn answer_red(
     if fresh == 0 {
         return 0;
     }
-    let old = lesser(olds[i], olds[j]);
+    let old = olds[i].min(olds[j]);
     let w = Row::of(game.arena, b, q);
     answer_row(game, acc, into, onto, w, fresh, old, table, grown, columns)
 }

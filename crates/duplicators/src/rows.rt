@@ -13,6 +13,7 @@ use super::told::Told;
 use arena::Game;
 use automaton::Automaton;
 use levels::candidates;
+use levels::row::Level;
 
 // Raises the candidates of a row, none of which has a step to one of `low`, by the levels of the others: how many rose.
 fn level_rest(
@@ -34,17 +35,21 @@ fn level_rest(
     ensures answered_in { AnsweredIn game.now (growing table.old grown.old columns.old) (growing table.new grown.new columns.new) result }
     ensures found_still { FoundStill (board game.now) game.now.arena.mode table.new w.b w.q game.now.arena.letters found.now }
 {
-    let mut values = [0u32; Automaton::STATES];
-    let mut members = [0u64; Automaton::STATES];
+    let mut room = [Level {
+        value: 0,
+        members: 0,
+    }; Automaton::STATES];
     let rest = words::minus(words::below(game.arena.states), low);
-    let count = levels::row::levels(row, rest, game.arena.top, &mut values, &mut members);
-    let told = Told {
-        onto,
-        values: &values,
-        members: &members,
-        count,
-    };
-    raise_all(game, &told, w, found, table, grown, columns)
+    let levels = levels::row::levels(row, rest, game.arena.top, &mut room);
+    raise_all(
+        game,
+        &Told { onto, levels },
+        w,
+        found,
+        table,
+        grown,
+        columns,
+    )
 }
 
 // Are there at most 8 candidates? Either answer is right.

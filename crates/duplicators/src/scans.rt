@@ -8,7 +8,6 @@ ghost use Rattle.duplicators.specs.Rows.{Seats, seen_in};
 use super::seats::Row;
 use super::telling::Tell;
 use arena::Game;
-use levels::row::lesser;
 
 // The accepting states, and the steps of each state by each letter.
 #[derive(Clone, Copy)]
@@ -29,7 +28,7 @@ fn low_scan(acc: u64, table: &[u32], w: Row, n: usize, steps: u64, old: u32, top
         if low <= old {
             break;
         }
-        low = lesser(low, w.seen(acc, table, x));
+        low = low.min(w.seen(acc, table, x));
     }
     low
 }

@@ -7,24 +7,22 @@ ghost use Rattle.duplicators.specs.Rows.{Tells};
 use super::seats::Row;
 use super::telling::Tell;
 use arena::Game;
+use levels::row::{Level, low_among};
 
 // The steps of each state by each letter, and the levels of the entries that they lead to.
 #[derive(Clone, Copy)]
 pub struct Told<'a> {
     pub onto: &'a [u64],
-    pub values: &'a [u32],
-    pub members: &'a [u64],
-    pub count: usize,
+    pub levels: &'a [Level],
 }
 
 impl<'a> Tell for Told<'a> {
-    ghost can_tell = { λ x g t w r a. (g.arena.states * g.arena.letters ≤ length x.onto.now) × (x.count ≤ length x.values.now) × (x.count ≤ length x.members.now)
-        × Tells (board g) g.arena.mode t w.b w.q x.onto.now x.values.now x.members.now x.count g.arena.top r a };
+    ghost can_tell = { λ x g t w r a. (g.arena.states * g.arena.letters ≤ length x.onto.now) × Tells (board g) g.arena.mode t w.b w.q x.onto.now x.levels.now g.arena.top r a };
 
     fn low(&self, game: &Game, _table: &[u32], _w: Row, r: usize, a: usize) -> u32 {
         let steps = self.onto[r * game.arena.letters + a];
-        levels::row::low_among(self.values, self.members, self.count, steps, game.arena.top)
+        low_among(self.levels, steps, game.arena.top)
     }
 
-    ghost tells_again = { λ x g t u w r a same told. (told.0, told.1, told.2, λ e h. told.3 e h ∙ sym same) };
+    ghost tells_again = { λ x g t u w r a same told. (told.0, λ e h. told.1 e h ∙ sym same) };
 }

@@ -35,7 +35,7 @@ raise_rest-requires c =
     let left : List ℕ = c.spare_all-any.new.found in
     let o = c.requires.working in
     let within = spared_within B c.args.game.now.arena.mode o.ready.formed c.args.into.now c.requires.into c.args.table.now c.args.w.b c.args.w.q c.args.old c.gather-low.result row c.args.found.now left o.rowed.bit o.rowed.red same c.gather-low.ensures.at_most c.spare_all-any.ensures.all_spared c.requires.found_within.1 in
-    record { working = o; accepting = c.requires.accepting; onto = c.requires.onto; found_within = (omega (arith, c.requires.found_within.0, c.spare_all-any.auto.found), within); row_whole = omega (arith, o.ready.formed.few); levels_tell = λ every rest count values members all minus levels. spared_told B c.args.game.now.arena.mode o.ready.formed c.args.into.now c.requires.into c.args.table.now c.args.w.b c.args.w.q c.args.old c.gather-low.result row c.args.found.now left o.rowed.bit o.rowed.red same c.gather-low.ensures.at_most c.spare_all-any.ensures.all_spared c.args.onto.now c.requires.onto _ every rest o.ready.topped all minus values members count levels within }
+    record { working = o; accepting = c.requires.accepting; onto = c.requires.onto; found_within = (omega (arith, c.requires.found_within.0, c.spare_all-any.auto.found), within); row_whole = omega (arith, o.ready.formed.few); levels_tell = λ every rest levels all minus peeled. spared_told B c.args.game.now.arena.mode o.ready.formed c.args.into.now c.requires.into c.args.table.now c.args.w.b c.args.w.q c.args.old c.gather-low.result row c.args.found.now left o.rowed.bit o.rowed.red same c.gather-low.ensures.at_most c.spare_all-any.ensures.all_spared c.args.onto.now c.requires.onto _ every rest o.ready.topped all minus levels peeled within }
 
 pub returns : goal.returns
 returns c =

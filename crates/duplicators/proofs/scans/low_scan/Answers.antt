@@ -7,7 +7,7 @@ pub loop-x-init : goal.loop-x-init
 loop-x-init c = rw (c.into_iter-x-iterator.ensures.into_iter_gives, c.members-x-items.ensures) (seek_start _ _ _)
 
 pub loop-x-preserved : goal.loop-x-preserved
-loop-x-preserved c = seek_more _ _ _ c.in-Some.ensures.steps.1 c.loop-x.invariant c.seen.ensures c.lesser-low.ensures
+loop-x-preserved c = seek_more _ _ _ c.in-Some.ensures.steps.1 c.loop-x.invariant c.seen.ensures c.min-low.ensures
 
 pub returns-in-None : goal.returns-in-None
 returns-in-None c = inl (seek_end _ _ _ c.in-None.ensures.steps.0 c.loop-x.invariant)

@@ -7,4 +7,4 @@ pub bounds-self-r : goal.bounds-self-r
 bounds-self-r c = omega (arith, digits_lt c.requires.in_range.0 c.requires.in_range.1, c.requires.can_tell.0)
 
 pub returns : goal.returns
-returns c = ap (max _) (c.requires.can_tell.3 c.low_among.result c.low_among.ensures)
+returns c = ap (max _) (c.requires.can_tell.1 c.low_among.result c.low_among.ensures)
