@@ -1,5 +1,5 @@
 -- The work on a row, member by member and letter by letter: what has been raised, and who is at rest so far.
-use mathlib.Core.Path.{◌≡◌, sym, ◌∙◌}
+use mathlib.Core.Path.{◌≡◌}
 use mathlib.Core.Logic.{◌⊎◌, inl, inr}
 use mathlib.Core.List.{List}
 use Prim.Native.Nat.{ℕ, ◌+◌, ◌<◌}
@@ -18,8 +18,8 @@ use Rattle.levels.specs.Lows.{Within}
 use Rattle.levels.proofs.Stored.{below_one}
 use Rattle.duplicators.specs.declared.seats.Row.{Row}
 use Rattle.duplicators.specs.Growing.{Growing, Answered, AnsweredIn}
-use Rattle.duplicators.specs.Rows.{Still, LetterStill, Tells, Working}
-use Rattle.duplicators.proofs.Part.{low_same, part_none, part_still, part_join}
+use Rattle.duplicators.specs.Rows.{Still, LetterStill, Working}
+use Rattle.duplicators.proofs.Part.{part_none, part_still, part_join}
 
 -- ---- what the work asks for holds after a part of it
 
@@ -86,11 +86,3 @@ module _ (B : Board) (m : Mode) (b q : ℕ) (found : List ℕ) where
     part = part_join F n l.part o;
     rest = below_one (λ i. LetterStill B m w.table b q i (at found i)) a (λ i h r k. part_still o F b q r i hb hq (within i (omega arith) r k) (omega arith) (l.rest i h r k)) still;
   }
-
--- ---- what the levels tell holds after a part of the work
-
-module _ {B : Board} {m : Mode} {s u : Growing} {c : ℕ} (p : Answered B m s u c) (F : Formed B) (b q : ℕ) (hb : b < layers m) (hq : q < B.n) where
-  pub tells-again : (onto values members : List ℕ) (count T r a : ℕ) → r < B.n → a < B.k
-      → Tells B m s.table b q onto values members count T r a → Tells B m u.table b q onto values members count T r a
-  tells-again onto values members count T r a hr ha told e h =
-      told e h ∙ sym (low_same B m F s.table u.table p.others b q r a hb hq hr ha)

@@ -13,6 +13,7 @@ use Rattle.arena.specs.Game.{board, Playable}
 use Rattle.halves.specs.Drawn.{Accepting, Into, Onto}
 use Rattle.halves.specs.Half.{low_at, Stirred}
 use Rattle.halves.specs.Rising.{Rising, Roomy, Spacious}
+use Rattle.levels.specs.declared.row.Level.{Level}
 use Rattle.levels.specs.Levels.{Levels, FirstHit}
 use Rattle.duplicators.specs.declared.seats.Row.{Row}
 
@@ -75,19 +76,19 @@ abbrev pub FoundStill : Board → Mode → (t : List ℕ) → (b q k : ℕ) → 
 FoundStill B m t b q k found = (a : ℕ) → a < k → LetterStill B m t b q a (at found a)
 
 -- the levels tell what (b,q,r,a) asks for; what each of a letter's candidates does; and what those of each letter do
-abbrev pub Tells : Board → Mode → (t : List ℕ) → (b q : ℕ) → (onto values members : List ℕ) → (count T r a : ℕ) → Type 0
-Tells B m t b q onto values members count T r a = (e : ℕ) → FirstHit values members count (at onto (r * B.k + a)) T e → e ≡ low_at B m t b q r a
+abbrev pub Tells : Board → Mode → (t : List ℕ) → (b q : ℕ) → (onto : List ℕ) → (levels : List Level) → (T r a : ℕ) → Type 0
+Tells B m t b q onto levels T r a = (e : ℕ) → FirstHit levels (at onto (r * B.k + a)) T e → e ≡ low_at B m t b q r a
 
-abbrev pub LetterTold : Board → Mode → (t : List ℕ) → (b q : ℕ) → (onto values members : List ℕ) → (count T a candidates : ℕ) → Type 0
-LetterTold B m t b q onto values members count T a candidates = (r : ℕ) → In r candidates → Tells B m t b q onto values members count T r a
+abbrev pub LetterTold : Board → Mode → (t : List ℕ) → (b q : ℕ) → (onto : List ℕ) → (levels : List Level) → (T a candidates : ℕ) → Type 0
+LetterTold B m t b q onto levels T a candidates = (r : ℕ) → In r candidates → Tells B m t b q onto levels T r a
 
-abbrev pub FoundTold : Board → Mode → (t : List ℕ) → (b q : ℕ) → (onto values members : List ℕ) → (count T : ℕ) → (found : List ℕ) → Type 0
-FoundTold B m t b q onto values members count T found = (a : ℕ) → a < B.k → LetterTold B m t b q onto values members count T a (at found a)
+abbrev pub FoundTold : Board → Mode → (t : List ℕ) → (b q : ℕ) → (onto : List ℕ) → (levels : List Level) → (T : ℕ) → (found : List ℕ) → Type 0
+FoundTold B m t b q onto levels T found = (a : ℕ) → a < B.k → LetterTold B m t b q onto levels T a (at found a)
 
 -- so do the levels of the states that are not low, however they are written
 abbrev pub LevelsTell : Board → Mode → (t : List ℕ) → (b q : ℕ) → (onto row : List ℕ) → (low T : ℕ) → (found : List ℕ) → Type 0
-LevelsTell B m t b q onto row low T found = (every rest count : ℕ) (values members : List ℕ) → Below B.n every → Minus every low rest
-    → Levels (at row) rest T values members count → FoundTold B m t b q onto values members count T found
+LevelsTell B m t b q onto row low T found = (every rest : ℕ) (levels : List Level) → Below B.n every → Minus every low rest
+    → Levels (at row) rest T levels → FoundTold B m t b q onto levels T found
 
 -- all positions of a row are stirred, and all of a layer
 abbrev pub RedStirred : Board → Mode → Rising → (b q : ℕ) → Type 0

@@ -8,9 +8,8 @@ ghost use Rattle.duplicators.specs.Growing.{AnsweredIn, growing};
 ghost use Rattle.duplicators.specs.Rows.{LayerStill, LayerStirred, Prepared, RedStirred, RowStill};
 
 use super::rows::answer_row;
-use super::seats::row_at;
+use super::seats::Row;
 use arena::Game;
-use levels::row::lesser;
 
 // The states whose entries have risen, as Duplicator sees them: of `plain` those that are in `others`, and of `marked` those that accept.
 fn fresh_in(acc: u64, others: u64, plain: u64, marked: u64) -> u64
@@ -35,25 +34,22 @@ fn answer_red(
     columns: &mut [u64],
 ) -> usize
     requires prepared { Prepared game.now acc into.now onto.now (rising table.old risen.now rows.now olds.now) grown.old columns.old }
-    requires b_bound { (b < layers game.now.arena.mode) × (q < game.now.arena.states) }
+    requires in_range { (b < layers game.now.arena.mode) × (q < game.now.arena.states) }
     requires red_stirred { RedStirred (board game.now) game.now.arena.mode (rising table.old risen.now rows.now olds.now) b q }
     ensures answered_in { AnsweredIn game.now (growing table.old grown.old columns.old) (growing table.new grown.new columns.new) result }
     ensures row_still { RowStill (board game.now) game.now.arena.mode table.new b q }
 {
     let n = game.arena.states;
-    let mode = game.arena.mode;
     let i = b * n + q;
-    let j = arena::eased(mode, true, b) * n + q;
+    let j = arena::eased(game.arena.mode, true, b) * n + q;
     let others = words::minus(words::below(n), acc);
     let fresh = fresh_in(acc, others, risen[i], risen[j]);
     if fresh == 0 {
         return 0;
     }
-    let old = lesser(olds[i], olds[j]);
-    let w = row_at(game.arena, b, q);
-    answer_row(
-        game, acc, into, onto, w, fresh, old, table, grown, columns,
-    )
+    let old = olds[i].min(olds[j]);
+    let w = Row::of(game.arena, b, q);
+    answer_row(game, acc, into, onto, w, fresh, old, table, grown, columns)
 }
 
 // Raises the entries (b,·,·,·): how many rose.
@@ -76,14 +72,13 @@ pub fn answer_layer(
     ensures answered_in { AnsweredIn game.now (growing table.old grown.old columns.old) (growing table.new grown.new columns.new) result }
     ensures layer_still { LayerStill (board game.now) game.now.arena.mode table.new b }
 {
-    let mode = game.arena.mode;
-    let eased = arena::eased(mode, true, b);
-    let touched = words::join(rows[b], rows[eased]);
-    let mut left = words::meet(touched, words::below(game.arena.states));
+    let eased = arena::eased(game.arena.mode, true, b);
+    let touched = words::meet(
+        words::join(rows[b], rows[eased]),
+        words::below(game.arena.states),
+    );
     let mut count = 0;
-    while left != 0 {
-        let q = words::lowest(left);
-        left = words::rest(left);
+    for q in words::members(touched) {
         count += answer_red(
             game, acc, into, onto, risen, rows, olds, b, q, table, grown, columns,
         );

@@ -18,6 +18,7 @@ mod raising;
 mod rows;
 mod scans;
 mod seats;
+mod telling;
 mod told;
 
 pub use ends::dead_ends;
@@ -45,15 +46,11 @@ pub fn answer(
     ensures halved { Halved (played game.now) game.now.arena.pairs (length table.old) table.old table.new }
     ensures answered_in { AnsweredIn game.now (growing table.old grown.old columns.old) (growing table.new grown.new columns.new) result }
 {
-    let mode = game.arena.mode;
-    let layers = arena::layers_of(mode);
     let mut count = 0;
-    let mut b = 0;
-    while b < layers {
+    for b in 0..arena::layers_of(game.arena.mode) {
         count += answer_layer(
             game, acc, into, onto, risen, rows, olds, b, table, grown, columns,
         );
-        b += 1;
     }
     count
 }

@@ -6,10 +6,14 @@ ghost use Rattle.levels.specs.Lows.{AllWithin, Within};
 ghost use Rattle.duplicators.specs.Growing.{AnsweredIn, growing};
 ghost use Rattle.duplicators.specs.Rows.{FoundStill, LevelsTell, RowFound, RowStill, RowStirred, Working};
 
+use super::raising::raise_all;
+use super::scans::Scan;
 use super::seats::Row;
-use super::{scans, seats, told};
+use super::told::Told;
 use arena::Game;
+use automaton::Automaton;
 use levels::candidates;
+use levels::row::Level;
 
 // Raises the candidates of a row, none of which has a step to one of `low`, by the levels of the others: how many rose.
 fn level_rest(
@@ -24,19 +28,27 @@ fn level_rest(
     columns: &mut [u64],
 ) -> usize
     requires working { Working game.now table.old grown.old columns.old w }
-    requires letters_in_bounds { game.now.arena.states * game.now.arena.letters ≤ length onto.now }
-    requires letters_in_bounds_2 { (game.now.arena.letters ≤ length found.now) × AllWithin game.now.arena.letters game.now.arena.states found.now }
-    requires states_in_bounds { game.now.arena.states ≤ length row.now }
+    requires onto_whole { game.now.arena.states * game.now.arena.letters ≤ length onto.now }
+    requires found_within { (game.now.arena.letters ≤ length found.now) × AllWithin game.now.arena.letters game.now.arena.states found.now }
+    requires row_whole { game.now.arena.states ≤ length row.now }
     requires levels_tell { LevelsTell (board game.now) game.now.arena.mode table.old w.b w.q onto.now row.now low game.now.arena.top found.now }
     ensures answered_in { AnsweredIn game.now (growing table.old grown.old columns.old) (growing table.new grown.new columns.new) result }
     ensures found_still { FoundStill (board game.now) game.now.arena.mode table.new w.b w.q game.now.arena.letters found.now }
 {
-    let mut values = [0u32; 64];
-    let mut members = [0u64; 64];
+    let mut room = [Level {
+        value: 0,
+        members: 0,
+    }; Automaton::STATES];
     let rest = words::minus(words::below(game.arena.states), low);
-    let count = levels::row::levels(row, rest, game.arena.top, &mut values, &mut members);
-    told::level_all(
-        game, onto, w, found, &values, &members, count, table, grown, columns,
+    let levels = levels::row::levels(row, rest, game.arena.top, &mut room);
+    raise_all(
+        game,
+        &Told { onto, levels },
+        w,
+        found,
+        table,
+        grown,
+        columns,
     )
 }
 
@@ -45,12 +57,13 @@ fn at_most_8(k: usize, found: &[u64]) -> bool
     requires { (k ≤ 16) × (k ≤ length found.now) }
 {
     let mut count = 0;
-    let mut a = 0;
-    while a < k && count <= 8 {
-        count += words::size(found[a]);
-        a += 1;
+    for word in &found[..k] {
+        count += words::size(*word);
+        if 8 < count {
+            return false;
+        }
     }
-    count <= 8
+    true
 }
 
 // The same, by scans where the candidates are few: levels would cost more than they save.
@@ -69,18 +82,16 @@ fn raise_rest(
     requires working { Working game.now table.old grown.old columns.old w }
     requires accepting { Accepting (board game.now) acc }
     requires onto { Onto (board game.now) onto.now }
-    requires letters_in_bounds { (game.now.arena.letters ≤ length found.now) × AllWithin game.now.arena.letters game.now.arena.states found.now }
-    requires states_in_bounds { game.now.arena.states ≤ length row.now }
+    requires found_within { (game.now.arena.letters ≤ length found.now) × AllWithin game.now.arena.letters game.now.arena.states found.now }
+    requires row_whole { game.now.arena.states ≤ length row.now }
     requires levels_tell { LevelsTell (board game.now) game.now.arena.mode table.old w.b w.q onto.now row.now low game.now.arena.top found.now }
     ensures answered_in { AnsweredIn game.now (growing table.old grown.old columns.old) (growing table.new grown.new columns.new) result }
     ensures found_still { FoundStill (board game.now) game.now.arena.mode table.new w.b w.q game.now.arena.letters found.now }
 {
     if at_most_8(game.arena.letters, found) {
-        return scans::scan_all(game, acc, onto, w, found, table, grown, columns);
+        return raise_all(game, &Scan { acc, onto }, w, found, table, grown, columns);
     }
-    level_rest(
-        game, onto, w, row, low, found, table, grown, columns,
-    )
+    level_rest(game, onto, w, row, low, found, table, grown, columns)
 }
 
 // Raises the candidates of a row, but for those that have a step to an entry of at most `old`: how many rose.
@@ -100,15 +111,15 @@ fn level_row(
     requires accepting { Accepting (board game.now) acc }
     requires into { Into (board game.now) into.now }
     requires onto { Onto (board game.now) onto.now }
-    requires letters_in_bounds { (game.now.arena.letters ≤ length found.old) × AllWithin game.now.arena.letters game.now.arena.states found.old }
+    requires found_within { (game.now.arena.letters ≤ length found.old) × AllWithin game.now.arena.letters game.now.arena.states found.old }
     requires row_found { RowFound (board game.now) game.now.arena.mode table.old w.b w.q found.old old }
     ensures answered_in { AnsweredIn game.now (growing table.old grown.old columns.old) (growing table.new grown.new columns.new) result }
     ensures row_still { RowStill (board game.now) game.now.arena.mode table.new w.b w.q }
 {
     let n = game.arena.states;
     let k = game.arena.letters;
-    let mut row = [0u32; 64];
-    let low = seats::gather(acc, &table[..], w, n, old, &mut row);
+    let mut row = [0u32; Automaton::STATES];
+    let low = w.gather(acc, &table[..], n, old, &mut row);
     let any = candidates::spare_all(n, k, into, low, found);
     if any == 0 {
         return 0;
@@ -165,10 +176,10 @@ pub fn answer_row(
 {
     let n = game.arena.states;
     let k = game.arena.letters;
-    let mut found = [0u64; 16];
+    let mut found = [0u64; Automaton::LETTERS];
     let count = candidates::reach_all(n, k, into, fresh, &mut found);
     if few(n, k, count, game.moves.len() / 3, game.arena.top) {
-        return scans::scan_all(game, acc, onto, w, &found, table, grown, columns);
+        return raise_all(game, &Scan { acc, onto }, w, &found, table, grown, columns);
     }
     level_row(
         game, acc, into, onto, w, old, &mut found, table, grown, columns,

@@ -36,23 +36,17 @@ fn sweeps(
     ensures value { result ≡ (settle (played game.now)).raised }
     ensures table_after { table.new ≡ (settle (played game.now)).table }
 {
-    let mut raised = sweep::first(
+    let mut raised = 0;
+    let mut last = sweep::first(
         game, acc, into, onto, table, risen, rows, olds, grown, columns,
     );
-    if raised == 0 {
-        return 0;
-    }
-    let mut last = raised;
-    'sweeping: loop {
-        let more = sweep::again(
+    while last != 0 {
+        raised += last;
+        last = sweep::again(
             game, acc, into, onto, table, risen, rows, olds, grown, columns, last,
         );
-        if more == 0 {
-            return raised;
-        }
-        raised += more;
-        last = more;
     }
+    raised
 }
 
 // Settles a cleared table: the number of raises.
@@ -64,7 +58,7 @@ pub fn settle(game: &Game, table: &mut [u32]) -> usize
 {
     let mut into = [0u64; halves::WORDS];
     let mut onto = [0u64; halves::WORDS];
-    halves::draw(game, &mut into[..], &mut onto[..]);
+    halves::draw(game, &mut into, &mut onto);
     let acc = halves::accepting(game);
     let mut risen = [0u64; ROWS];
     let mut rows = [0u64; 2];
@@ -74,13 +68,13 @@ pub fn settle(game: &Game, table: &mut [u32]) -> usize
     sweeps(
         game,
         acc,
-        &into[..],
-        &onto[..],
+        &into,
+        &onto,
         table,
-        &mut risen[..],
-        &mut rows[..],
-        &mut olds[..],
-        &mut grown[..],
-        &mut columns[..],
+        &mut risen,
+        &mut rows,
+        &mut olds,
+        &mut grown,
+        &mut columns,
     )
 }

@@ -2,8 +2,8 @@
 // It stands by itself: `rounds` goes from sweep to sweep by what a sweep promises, whichever way it is made.
 #![tactic(auto)]
 
-mod ways; // ways.rt: the ways through Spoiler's half
-mod wipe; // wipe.rt: taking marks away
+mod ways;
+mod wipe;
 
 ghost use Rattle.std.specs.Prelude.{◌≡◌};
 ghost use Rattle.games.specs.Lift.{cleared, lifts, raises};
@@ -71,7 +71,7 @@ pub fn again(
     requires poised { Poised (board game.now) game.now.arena.mode table.old risen.old grown.old columns.old }
     ensures value { result ≡ raises (played game.now) table.old (sweep (played game.now)) }
     ensures table_after { table.new ≡ lifts (played game.now) table.old (sweep (played game.now)) }
-    ensures poised_2 { Poised (board game.now) game.now.arena.mode table.new risen.new grown.new columns.new }
+    ensures poised_again { Poised (board game.now) game.now.arena.mode table.new risen.new grown.new columns.new }
 {
     let pushed = ways::challenge(
         game,

@@ -14,13 +14,10 @@ use automaton::Mode;
 fn dense(g: Arena, moves: usize, last: usize) -> bool
     requires { (g.states ≤ 64) × (g.letters ≤ 16) }
 {
-    let mode = g.mode;
     let n = g.states;
     let k = g.letters;
-    match mode {
-        Mode::Ordinary => false,
-        Mode::Direct => false,
-        Mode::Delayed => false,
+    match g.mode {
+        Mode::Ordinary | Mode::Direct | Mode::Delayed => false,
         Mode::Fair => moves <= 65536 && n * (n * k + moves) / 8 <= last,
     }
 }
@@ -55,7 +52,5 @@ pub fn challenge(
     if dense(game.arena, game.moves.len() / 3, last) {
         return spoilers::pull(game, acc, onto, table, risen, rows, olds);
     }
-    spoilers::push(
-        game, acc, into, grown, columns, table, risen, rows, olds,
-    )
+    spoilers::push(game, acc, into, grown, columns, table, risen, rows, olds)
 }

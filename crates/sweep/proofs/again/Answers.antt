@@ -22,7 +22,7 @@ challenge-pushed-requires c =
 
 pub all_columns-requires : goal.all_columns-requires
 all_columns-requires c =
-    record { states_le_most_states = (c.requires.equipped.ready.formed.few, c.requires.equipped.ready.formed.few_letters); letters_in_bounds = (c.requires.equipped.for_grown, c.requires.equipped.for_columns) }
+    record { numbers_fit = (c.requires.equipped.ready.formed.few, c.requires.equipped.ready.formed.few_letters); columns_in_bounds = (c.requires.equipped.for_grown, c.requires.equipped.for_columns) }
 
 pub answer-answered-requires : goal.answer-answered-requires
 answer-answered-requires c =
@@ -54,7 +54,7 @@ all_rows-requires c =
     let like-wiped : Alike lent wiped = alike_more like-pushed (alike refl refl refl refl c.all_columns.auto.grown c.all_columns.auto.columns) in
     let still : With wiped = equipped_again c.requires.equipped like-wiped in
     let e = still in
-    record { states_le_most_states = e.ready.formed.few; states_in_bounds = (e.for_risen, e.for_olds, e.for_rows); covered = noted_covered B m lent.table noted c.challenge-pushed.ensures.all_noted }
+    record { states_le_most_states = e.ready.formed.few; rows_in_bounds = (e.for_risen, e.for_olds, e.for_rows); covered = noted_covered B m lent.table noted c.challenge-pushed.ensures.all_noted }
 
 pub overflow_add-result : goal.overflow_add-result
 overflow_add-result c =
@@ -90,4 +90,4 @@ returns c =
     let both = sweep-done c.args.game.now c.requires.equipped.ready pushed.table answered.table left.risen answered.grown answered.columns
     half (duplicators_half c.args.game.now e.ready c.answer-answered.ensures.halved) c.challenge-pushed.ensures.value (sym c.answer-answered.ensures.answered_in.count) c.requires.poised.capped
     c.answer-answered.ensures.answered_in.marked c.all_rows.ensures in
-    record { value = both.0; table_after = both.1.0; poised_2 = both.1.1 }
+    record { value = both.0; table_after = both.1.0; poised_again = both.1.1 }

@@ -67,7 +67,7 @@ all_rows-requires c =
     let like-ended : Alike lent ended = alike_more like-begun (alike c.dead_ends-ended.auto.table refl refl refl c.dead_ends-ended.auto.grown c.dead_ends-ended.auto.columns) in
     let still : With ended = equipped_again c.requires.equipped like-ended in
     let e = still in
-    record { states_le_most_states = e.ready.formed.few; states_in_bounds = (e.for_risen, e.for_olds, e.for_rows); covered = noted_covered B m lent.table noted c.begin-begun.ensures.all_noted }
+    record { states_le_most_states = e.ready.formed.few; rows_in_bounds = (e.for_risen, e.for_olds, e.for_rows); covered = noted_covered B m lent.table noted c.begin-begun.ensures.all_noted }
 
 pub overflow_add-result : goal.overflow_add-result
 overflow_add-result c =

@@ -17,7 +17,7 @@ returns-then-few c =
     found_row B c.args.game.now.arena.mode c.requires.working.ready.formed c.args.into.now c.requires.into c.args.table.now c.args.w.b c.args.w.q c.args.fresh c.args.old found
     c.reach_all-count.ensures.found c.requires.row_stirred in
     let o = c.requires.working in
-    record { answered_in = c.scan_all.ensures.answered_in; row_still = row_done o.ready.formed c.args.w.b c.args.w.q found o.rowed.bit o.rowed.red c.scan_all.ensures.answered_in (found_covers B c.args.game.now.arena.mode c.args.table.now found c.args.w.b c.args.w.q c.args.old covers) c.scan_all.ensures.found_still }
+    record { answered_in = c.raise_all.ensures.answered_in; row_still = row_done o.ready.formed c.args.w.b c.args.w.q found o.rowed.bit o.rowed.red c.raise_all.ensures.answered_in (found_covers B c.args.game.now.arena.mode c.args.table.now found c.args.w.b c.args.w.q c.args.old covers) c.raise_all.ensures.found_still }
 
 pub level_row-requires : goal.level_row-requires
 level_row-requires c =
@@ -27,4 +27,4 @@ level_row-requires c =
     let covers : RowFound B c.args.game.now.arena.mode c.args.table.now c.args.w.b c.args.w.q found c.args.old =
     found_row B c.args.game.now.arena.mode c.requires.working.ready.formed c.args.into.now c.requires.into c.args.table.now c.args.w.b c.args.w.q c.args.fresh c.args.old found
     c.reach_all-count.ensures.found c.requires.row_stirred in
-    record { working = c.requires.working; accepting = c.requires.accepting; into = c.requires.into; onto = c.requires.onto; letters_in_bounds = (omega (arith, c.requires.working.ready.formed.few_letters), within); row_found = covers }
+    record { working = c.requires.working; accepting = c.requires.accepting; into = c.requires.into; onto = c.requires.onto; found_within = (omega (arith, c.requires.working.ready.formed.few_letters), within); row_found = covers }

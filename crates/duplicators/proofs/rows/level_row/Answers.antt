@@ -16,7 +16,7 @@ pub gather-low-requires : goal.gather-low-requires
 gather-low-requires c =
     let B : Board = board c.args.game.now in
     let o = c.requires.working in
-    record { n_bound = (o.ready.formed.few, omega (arith, o.ready.formed.few)); seats = row-seats B c.args.game.now.arena.mode o.ready.formed c.args.w o.rowed c.args.table.now o.ready.entries }
+    record { row_has_room = (o.ready.formed.few, omega (arith, o.ready.formed.few)); seats = row-seats B c.args.game.now.arena.mode o.ready.formed c.args.w o.rowed c.args.table.now o.ready.entries }
 
 pub returns-then-any-eq0 : goal.returns-then-any-eq0
 returns-then-any-eq0 c =
@@ -34,8 +34,8 @@ raise_rest-requires c =
     let same : (x : ℕ) → x < c.args.game.now.arena.states → at row x ≡ at c.args.table.now (replied B c.args.game.now.arena.mode c.args.w.b c.args.w.q x) = λ x h. c.gather-low.ensures.gathered x h ∙ seen_same B c.args.game.now.arena.mode c.requires.working.ready.formed c.args.w c.requires.working.rowed c.args.acc c.requires.accepting c.args.table.now x h in
     let left : List ℕ = c.spare_all-any.new.found in
     let o = c.requires.working in
-    let within = spared_within B c.args.game.now.arena.mode o.ready.formed c.args.into.now c.requires.into c.args.table.now c.args.w.b c.args.w.q c.args.old c.gather-low.result row c.args.found.now left o.rowed.bit o.rowed.red same c.gather-low.ensures.at_most c.spare_all-any.ensures.all_spared c.requires.letters_in_bounds.1 in
-    record { working = o; accepting = c.requires.accepting; onto = c.requires.onto; letters_in_bounds = (omega (arith, c.requires.letters_in_bounds.0, c.spare_all-any.auto.found), within); states_in_bounds = omega (arith, o.ready.formed.few); levels_tell = λ every rest count values members all minus levels. spared_told B c.args.game.now.arena.mode o.ready.formed c.args.into.now c.requires.into c.args.table.now c.args.w.b c.args.w.q c.args.old c.gather-low.result row c.args.found.now left o.rowed.bit o.rowed.red same c.gather-low.ensures.at_most c.spare_all-any.ensures.all_spared c.args.onto.now c.requires.onto _ every rest o.ready.topped all minus values members count levels within }
+    let within = spared_within B c.args.game.now.arena.mode o.ready.formed c.args.into.now c.requires.into c.args.table.now c.args.w.b c.args.w.q c.args.old c.gather-low.result row c.args.found.now left o.rowed.bit o.rowed.red same c.gather-low.ensures.at_most c.spare_all-any.ensures.all_spared c.requires.found_within.1 in
+    record { working = o; accepting = c.requires.accepting; onto = c.requires.onto; found_within = (omega (arith, c.requires.found_within.0, c.spare_all-any.auto.found), within); row_whole = omega (arith, o.ready.formed.few); levels_tell = λ every rest levels all minus peeled. spared_told B c.args.game.now.arena.mode o.ready.formed c.args.into.now c.requires.into c.args.table.now c.args.w.b c.args.w.q c.args.old c.gather-low.result row c.args.found.now left o.rowed.bit o.rowed.red same c.gather-low.ensures.at_most c.spare_all-any.ensures.all_spared c.args.onto.now c.requires.onto _ every rest o.ready.topped all minus levels peeled within }
 
 pub returns : goal.returns
 returns c =

@@ -7,4 +7,4 @@ pub returns : goal.returns
 returns c =
     let a = c.args in
     blanked (board a.game.now) a.game.now.arena.mode a.risen.now c.some_rows.new.risen c.some_rows-2.new.risen a.rows.now
-    c.requires.covered c.some_rows.ensures.emptied c.some_rows.ensures.by_index c.some_rows-2.ensures.emptied c.some_rows-2.ensures.by_index
+    c.requires.covered c.some_rows.ensures.emptied c.some_rows.ensures.rows_empty c.some_rows-2.ensures.emptied c.some_rows-2.ensures.rows_empty
