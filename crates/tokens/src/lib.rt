@@ -127,6 +127,7 @@ fn word_len(text: &[u8]) -> usize
     text.iter().take_while(|b| is_wordly(**b)).count()
 }
 
+// A token of a sort.
 fn sorted(sort: Sort, at: usize, next: usize) -> Token
     ensures { result ≡ sorted sort at next }
 {
