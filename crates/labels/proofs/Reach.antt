@@ -61,7 +61,7 @@ module _ (s : List ℕ) where
       subst (λ (y : Token). (i < y.next) × (y.next ≤ length s)) (sym e)
       (token_on s i le (ap (λ (y : Token). stands y.sort) (sym e) ∙ on))
 
-  here_on : {i j : ℕ} {k : Sort} → Here (token_from s) i k j → stands k ≡ true → i ≤ length s → (i < j) × (j ≤ length s)
+  pub here_on : {i j : ℕ} {k : Sort} → Here (token_from s) i k j → stands k ≡ true → i ≤ length s → (i < j) × (j ≤ length s)
   here_on {i} h on le =
       let g = token_on s i le (ap stands h.0 ∙ on) in
       (omega (arith, h.1), omega (arith, h.1))
