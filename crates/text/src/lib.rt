@@ -28,6 +28,9 @@ pub const LETTERS: usize = 8;
 
 pub const BYTES: usize = 32768;
 
+// The bytes of all the moves that an automaton within them can have.
+pub const MOVES: usize = 3 * STATES * LETTERS * STATES;
+
 // Reads a text: a mark a state and three bytes a move are written, and nothing past them.
 // Refusals 22, 20, 1, 2, 21, 3, 4, 6, 7, 8 and 16, in this order.
 pub fn read(text: &[u8], marks: &mut [u8], moves: &mut [u8]) -> Result<Reading, Refusal>
