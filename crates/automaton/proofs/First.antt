@@ -1,6 +1,7 @@
 -- The laws of `first`: one step on, where it lies, what is false before it and true at it, and which searches find it. And the law of `some`.
-use Rattle.std.proofs.Common.{◌≡◌, refl, sym, ap, ◌∙◌, ◌↔◌, Bool, true, false, ◌&&◌, ◌||◌, not, cond, true≢false, ℕ, zero, suc, ◌+◌, ◌-◌, ◌≤◌, ◌<◌, add-one, zero-add, arith, eq-eqb, ne_eqb, eqb, ltb, lt-ltb, le-ltb, List, length, get_or, Some, None}
+use Rattle.std.proofs.Common.{◌≡◌, refl, sym, ap, ◌∙◌, ◌↔◌, Bool, true, false, ◌&&◌, ◌||◌, not, cond, true≢false, ℕ, zero, suc, ◌+◌, ◌-◌, ◌≤◌, ◌<◌, add-one, zero-add, arith, eq-eqb, ne_eqb, eqb, ltb, lt-ltb, le-ltb, ltb-false, List, length, get_or, Some, None}
 use Rattle.std.proofs.lemmas.Bool.{false≢true}
+use Rattle.std.specs.Option.{unwrap_or}
 use Rattle.std.specs.List.{find, position, range_with_len}
 use Rattle.std.proofs.lemmas.List.Sums.{position_or_len_is}
 use native.Mathlib.Decide.{ℕ_discrete}
@@ -138,3 +139,11 @@ first-find p v (suc c) = go (p v) refl (first-find p (suc v) c)
 
 pub first_below-find : (p : ℕ → Bool) (c : ℕ) → find p (range_with_len 0 c) ≡ first_below p c
 first_below-find p c = rw (zero-add c) at (first-find p 0 c)
+
+-- and where `find` is given the end for what it does not find
+pub first-find-or : (p : ℕ → Bool) (v c : ℕ) → unwrap_or (find p (range_with_len v c)) (v + c) ≡ first p v c
+first-find-or p v c = ap (λ o. unwrap_or o (v + c)) (first-find p v c) ∙ go (ltb (first p v c) (v + c)) refl
+  where
+    go : (s : Bool) → ltb (first p v c) (v + c) ≡ s → unwrap_or (cond s (Some (first p v c)) None) (v + c) ≡ first p v c
+    go true d = refl
+    go false d = omega (arith, ltb-false (first p v c) (v + c) d, (first-lowest p v c).most)
