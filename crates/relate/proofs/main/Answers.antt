@@ -1,7 +1,5 @@
 -- `relate::main` is safe and ends: the bytes that `report` counts lie in the buffer.
-use mathlib.Core.Path.{sym, ap, ◌∙◌}
-use native.Mathlib.Omega.{arith}
-use lib.ListN.{length}
+use Rattle.std.proofs.Common.{sym, ap, ◌∙◌, arith, length}
 use Rattle.report.specs.Answers.{of_reported}
 use Rattle.report.proofs.Told.{report-within, report-long}
 use Rattle.relate.proofs.main.Goals as goal
