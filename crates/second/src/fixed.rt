@@ -17,11 +17,11 @@ impl Rules<'_> {
         x[0][..states] == y[0][..states] && x[1][..states] == y[1][..states]
     }
 
-    // Steps on from a set until nothing changes: the fixed point.
-    fn fixed_point<F: Fn(&Positions) -> Positions>(self, from: Positions, step: F) -> Positions
+    // Steps on until nothing changes, from the set with these rows: the fixed point.
+    fn fixed_point<F: Fn(&Positions) -> Positions>(self, row: u64, step: F) -> Positions
         requires { F.IsAlwaysCallable step }
     {
-        let mut set = from;
+        let mut set = [[row; Automaton::STATES]; 2];
         for _ in 0..ROUNDS {
             let stepped = step(&set);
             if self.same(&set, &stepped) {
@@ -48,23 +48,26 @@ impl Rules<'_> {
 
     // The greatest Z, where x and y are a round into X and into Y.
     fn inner(self, x: &Positions, y: &Positions) -> Positions {
-        self.fixed_point(rules::ALL, |z| self.joined(x, y, &self.answered(z)))
+        self.fixed_point(u64::MAX, |z| self.joined(x, y, &self.answered(z)))
     }
 
     // The least Y, where x is a round into X.
     fn middle(self, x: &Positions) -> Positions {
-        self.fixed_point(rules::NONE, |y| self.inner(x, &self.answered(y)))
+        self.fixed_point(0, |y| self.inner(x, &self.answered(y)))
     }
 
     // The greatest X.
     fn outer(self) -> Positions {
-        self.fixed_point(rules::ALL, |x| self.middle(&self.answered(x)))
+        self.fixed_point(u64::MAX, |x| self.middle(&self.answered(x)))
     }
 
     // The positions that Duplicator wins. Ordinary and direct mode have no good and no bad ones, so Z is all there is.
     pub fn winning(self) -> Positions {
         match self.mode {
-            Mode::Ordinary | Mode::Direct => self.inner(&rules::NONE, &rules::NONE),
+            Mode::Ordinary | Mode::Direct => {
+                let none = rules::NONE;
+                self.inner(&none, &none)
+            }
             Mode::Delayed | Mode::Fair => self.outer(),
         }
     }

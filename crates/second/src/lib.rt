@@ -31,12 +31,13 @@ pub fn relation(
     if out.len() != a.states * a.states {
         return Err(Refusal::OutputLength);
     }
+    let successors = rules::successors(moves);
     let rules = Rules {
         states: a.states,
         letters: a.letters,
         mode,
         accepting: rules::accepting(marks),
-        successors: &rules::successors(moves),
+        successors: &successors,
     };
     Ok(write(rules, &rules.winning(), out))
 }

@@ -11,10 +11,8 @@ pub type Successors = [[u64; Automaton::STATES]; Automaton::LETTERS];
 // A set of Spoiler's positions (b, q, q') has q' in its row q of layer b.
 pub type Positions = [[u64; Automaton::STATES]; 2];
 
-// No position, and all of them, with rows past the last state, which nothing reads.
+// No position.
 pub const NONE: Positions = [[0; Automaton::STATES]; 2];
-
-pub const ALL: Positions = [[u64::MAX; Automaton::STATES]; 2];
 
 // An automaton's numbers, the mode, the accepting states, and the moves.
 #[derive(Clone, Copy)]
