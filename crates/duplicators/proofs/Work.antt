@@ -11,7 +11,7 @@ use Rattle.words.proofs.Sets.{empty, pop_cases, pop_sub}
 use Rattle.automaton.specs.declared.Mode.{Mode}
 use Rattle.automaton.specs.Board.{Board, Formed}
 use Rattle.simulation.specs.Position.{layers, positions}
-use Rattle.arena.specs.declared.Arena.{Arena}
+use Rattle.arena.specs.declared.game.Game.{Game}
 use Rattle.arena.proofs.Open.{ready-again}
 use Rattle.halves.specs.Rising.{Spacious}
 use Rattle.levels.specs.Lows.{Within}
@@ -26,10 +26,10 @@ use Rattle.duplicators.proofs.Part.{low_same, part_none, part_still, part_join}
 pub spacious-again : {B : Board} {m : Mode} {s u : Growing} {c : ℕ} → Answered B m s u c → Spacious B m s.grown s.columns → Spacious B m u.grown u.columns
 spacious-again p o = record { words = omega (arith, p.words, o.words); sets = omega (arith, p.sets, o.sets) }
 
-pub working_again : (g : Arena) (marks moves : List ℕ) (w : Row) (s u : Growing) {c : ℕ} → AnsweredIn g marks moves s u c
-    → Working g marks moves s.table s.grown s.columns w → Working g marks moves u.table u.grown u.columns w
-working_again g marks moves w s u p o = record {
-  ready = ready-again g marks moves s.table u.table o.ready p.entries;
+pub working_again : (g : Game) (w : Row) (s u : Growing) {c : ℕ} → AnsweredIn g s u c
+    → Working g s.table s.grown s.columns w → Working g u.table u.grown u.columns w
+working_again g w s u p o = record {
+  ready = ready-again g.arena g.marks.now g.moves.now s.table u.table o.ready p.entries;
   spacious = spacious-again p o.spacious;
   rowed = o.rowed;
 }

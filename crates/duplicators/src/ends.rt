@@ -1,7 +1,7 @@
 // Duplicator's dead ends: positions without a step, which ask for T.
 ghost use Rattle.std.specs.Prelude.{◌*◌, ◌≤◌, ◌<◌, length};
 ghost use Rattle.simulation.specs.Position.{layers};
-ghost use Rattle.arena.specs.Arena.{board_in, Ready};
+ghost use Rattle.arena.specs.Game.{board, Playable};
 ghost use Rattle.halves.specs.Drawn.{Accepting, Onto};
 ghost use Rattle.halves.specs.Rising.{Spacious};
 ghost use Rattle.levels.specs.Candidates.{AllIn};
@@ -11,7 +11,7 @@ ghost use Rattle.duplicators.specs.Growing.{AnsweredIn, growing};
 ghost use Rattle.duplicators.specs.Rows.{AllEnded};
 
 use super::{scans, seats};
-use arena::Arena;
+use arena::Game;
 
 // The set, and x too if it has no steps.
 fn without(set: u64, x: usize, steps: u64) -> u64
@@ -60,9 +60,7 @@ fn dead_letters(n: usize, k: usize, onto: &[u64], found: &mut [u64]) -> u64
 
 // Raises the candidates in every row of a layer: how many rose.
 fn end_layer(
-    g: Arena,
-    marks: &[u8],
-    moves: &[u8],
+    game: &Game,
     acc: u64,
     onto: &[u64],
     b: usize,
@@ -71,21 +69,21 @@ fn end_layer(
     grown: &mut [u64],
     columns: &mut [u64],
 ) -> usize
-    requires ready { Ready g marks.now moves.now table.old }
-    requires accepting { Accepting (board_in g marks.now moves.now) acc }
-    requires onto { Onto (board_in g marks.now moves.now) onto.now }
-    requires spacious { Spacious (board_in g marks.now moves.now) g.mode grown.old columns.old }
-    requires b_bound { b < layers g.mode }
-    requires letters_in_bounds { (g.letters ≤ length found.now) × AllWithin g.letters g.states found.now }
-    ensures answered_in { AnsweredIn g marks.now moves.now (growing table.old grown.old columns.old) (growing table.new grown.new columns.new) result }
-    ensures layer_found { LayerFound (board_in g marks.now moves.now) g.mode table.new b found.now }
+    requires ready { Playable game.now table.old }
+    requires accepting { Accepting (board game.now) acc }
+    requires onto { Onto (board game.now) onto.now }
+    requires spacious { Spacious (board game.now) game.now.arena.mode grown.old columns.old }
+    requires b_bound { b < layers game.now.arena.mode }
+    requires letters_in_bounds { (game.now.arena.letters ≤ length found.now) × AllWithin game.now.arena.letters game.now.arena.states found.now }
+    ensures answered_in { AnsweredIn game.now (growing table.old grown.old columns.old) (growing table.new grown.new columns.new) result }
+    ensures layer_found { LayerFound (board game.now) game.now.arena.mode table.new b found.now }
 {
-    let n = g.states;
+    let n = game.arena.states;
     let mut count = 0;
     let mut q = 0;
     while q < n {
-        let w = seats::row_at(g, b, q);
-        count += scans::scan_all(g, marks, moves, acc, onto, w, found, table, grown, columns);
+        let w = seats::row_at(game.arena, b, q);
+        count += scans::scan_all(game, acc, onto, w, found, table, grown, columns);
         q += 1;
     }
     count
@@ -93,9 +91,7 @@ fn end_layer(
 
 // The same in every layer.
 fn end_layers(
-    g: Arena,
-    marks: &[u8],
-    moves: &[u8],
+    game: &Game,
     acc: u64,
     onto: &[u64],
     found: &[u64],
@@ -103,20 +99,20 @@ fn end_layers(
     grown: &mut [u64],
     columns: &mut [u64],
 ) -> usize
-    requires ready { Ready g marks.now moves.now table.old }
-    requires accepting { Accepting (board_in g marks.now moves.now) acc }
-    requires onto { Onto (board_in g marks.now moves.now) onto.now }
-    requires spacious { Spacious (board_in g marks.now moves.now) g.mode grown.old columns.old }
-    requires letters_in_bounds { (g.letters ≤ length found.now) × AllWithin g.letters g.states found.now }
-    ensures answered_in { AnsweredIn g marks.now moves.now (growing table.old grown.old columns.old) (growing table.new grown.new columns.new) result }
-    ensures each_found { EachFound (board_in g marks.now moves.now) g.mode table.new found.now }
+    requires ready { Playable game.now table.old }
+    requires accepting { Accepting (board game.now) acc }
+    requires onto { Onto (board game.now) onto.now }
+    requires spacious { Spacious (board game.now) game.now.arena.mode grown.old columns.old }
+    requires letters_in_bounds { (game.now.arena.letters ≤ length found.now) × AllWithin game.now.arena.letters game.now.arena.states found.now }
+    ensures answered_in { AnsweredIn game.now (growing table.old grown.old columns.old) (growing table.new grown.new columns.new) result }
+    ensures each_found { EachFound (board game.now) game.now.arena.mode table.new found.now }
 {
-    let mode = g.mode;
+    let mode = game.arena.mode;
     let layers = arena::layers_of(mode);
     let mut count = 0;
     let mut b = 0;
     while b < layers {
-        count += end_layer(g, marks, moves, acc, onto, b, found, table, grown, columns);
+        count += end_layer(game, acc, onto, b, found, table, grown, columns);
         b += 1;
     }
     count
@@ -124,26 +120,24 @@ fn end_layers(
 
 // Duplicator's dead ends are raised, in every row: how many rose.
 pub fn dead_ends(
-    g: Arena,
-    marks: &[u8],
-    moves: &[u8],
+    game: &Game,
     acc: u64,
     onto: &[u64],
     table: &mut [u32],
     grown: &mut [u64],
     columns: &mut [u64],
 ) -> usize
-    requires ready { Ready g marks.now moves.now table.old }
-    requires accepting { Accepting (board_in g marks.now moves.now) acc }
-    requires onto { Onto (board_in g marks.now moves.now) onto.now }
-    requires spacious { Spacious (board_in g marks.now moves.now) g.mode grown.old columns.old }
-    ensures answered_in { AnsweredIn g marks.now moves.now (growing table.old grown.old columns.old) (growing table.new grown.new columns.new) result }
-    ensures all_ended { AllEnded (board_in g marks.now moves.now) g.mode table.new }
+    requires ready { Playable game.now table.old }
+    requires accepting { Accepting (board game.now) acc }
+    requires onto { Onto (board game.now) onto.now }
+    requires spacious { Spacious (board game.now) game.now.arena.mode grown.old columns.old }
+    ensures answered_in { AnsweredIn game.now (growing table.old grown.old columns.old) (growing table.new grown.new columns.new) result }
+    ensures all_ended { AllEnded (board game.now) game.now.arena.mode table.new }
 {
     let mut found = [0u64; 16];
-    let any = dead_letters(g.states, g.letters, onto, &mut found);
+    let any = dead_letters(game.arena.states, game.arena.letters, onto, &mut found);
     if any == 0 {
         return 0;
     }
-    end_layers(g, marks, moves, acc, onto, &found, table, grown, columns)
+    end_layers(game, acc, onto, &found, table, grown, columns)
 }

@@ -1,6 +1,6 @@
 // Candidates raised by what they ask for, read off the table step by step.
 ghost use Rattle.std.specs.Prelude.{◌≤◌, ◌<◌, length};
-ghost use Rattle.arena.specs.Arena.{board_in};
+ghost use Rattle.arena.specs.Game.{board};
 ghost use Rattle.halves.specs.Drawn.{Accepting, Onto};
 ghost use Rattle.levels.specs.Lows.{AllWithin, LowPast, Within};
 ghost use Rattle.duplicators.specs.Growing.{AnsweredIn, growing};
@@ -8,7 +8,7 @@ ghost use Rattle.duplicators.specs.Rows.{FoundStill, LetterStill, Seats, seen_in
 
 use super::seats::Row;
 use super::{raising, seats};
-use arena::Arena;
+use arena::Game;
 use levels::row::lesser;
 
 // The least entry that the steps lead to, and top if there are none. It looks no further once it is no greater than `old`.
@@ -30,9 +30,7 @@ fn low_scan(acc: u64, table: &[u32], w: Row, n: usize, steps: u64, old: u32, top
 
 // Raises the entry of (b,q,r,a) by a scan of its steps: 1 if it rose, else 0.
 fn scan_one(
-    g: Arena,
-    marks: &[u8],
-    moves: &[u8],
+    game: &Game,
     acc: u64,
     onto: &[u64],
     w: Row,
@@ -42,24 +40,22 @@ fn scan_one(
     grown: &mut [u64],
     columns: &mut [u64],
 ) -> usize
-    requires working { Working g marks.now moves.now table.old grown.old columns.old w }
-    requires accepting { Accepting (board_in g marks.now moves.now) acc }
-    requires onto { Onto (board_in g marks.now moves.now) onto.now }
-    requires r_lt_states { (r < g.states) × (a < g.letters) }
-    ensures answered_in { AnsweredIn g marks.now moves.now (growing table.old grown.old columns.old) (growing table.new grown.new columns.new) result }
-    ensures still { Still (board_in g marks.now moves.now) g.mode table.new w.b w.q r a }
+    requires working { Working game.now table.old grown.old columns.old w }
+    requires accepting { Accepting (board game.now) acc }
+    requires onto { Onto (board game.now) onto.now }
+    requires r_lt_states { (r < game.now.arena.states) × (a < game.now.arena.letters) }
+    ensures answered_in { AnsweredIn game.now (growing table.old grown.old columns.old) (growing table.new grown.new columns.new) result }
+    ensures still { Still (board game.now) game.now.arena.mode table.new w.b w.q r a }
 {
-    let i = raising::place(g, marks, moves, &table[..], w, r, a);
-    let steps = onto[r * g.letters + a];
-    let low = low_scan(acc, &table[..], w, g.states, steps, table[i], g.top);
-    raising::raise(g, marks, moves, w, r, a, low, table, grown, columns)
+    let i = raising::place(game, &table[..], w, r, a);
+    let steps = onto[r * game.arena.letters + a];
+    let low = low_scan(acc, &table[..], w, game.arena.states, steps, table[i], game.arena.top);
+    raising::raise(game, w, r, a, low, table, grown, columns)
 }
 
 // The same of a letter's candidates: how many rose.
 fn scan_letter(
-    g: Arena,
-    marks: &[u8],
-    moves: &[u8],
+    game: &Game,
     acc: u64,
     onto: &[u64],
     w: Row,
@@ -69,28 +65,26 @@ fn scan_letter(
     grown: &mut [u64],
     columns: &mut [u64],
 ) -> usize
-    requires working { Working g marks.now moves.now table.old grown.old columns.old w }
-    requires accepting { Accepting (board_in g marks.now moves.now) acc }
-    requires onto { Onto (board_in g marks.now moves.now) onto.now }
-    requires a_lt_letters { (a < g.letters) × Within candidates g.states }
-    ensures answered_in { AnsweredIn g marks.now moves.now (growing table.old grown.old columns.old) (growing table.new grown.new columns.new) result }
-    ensures letter_still { LetterStill (board_in g marks.now moves.now) g.mode table.new w.b w.q a candidates }
+    requires working { Working game.now table.old grown.old columns.old w }
+    requires accepting { Accepting (board game.now) acc }
+    requires onto { Onto (board game.now) onto.now }
+    requires a_lt_letters { (a < game.now.arena.letters) × Within candidates game.now.arena.states }
+    ensures answered_in { AnsweredIn game.now (growing table.old grown.old columns.old) (growing table.new grown.new columns.new) result }
+    ensures letter_still { LetterStill (board game.now) game.now.arena.mode table.new w.b w.q a candidates }
 {
     let mut count = 0;
     let mut left = candidates;
     while left != 0 {
         let r = words::lowest(left);
         left = words::rest(left);
-        count += scan_one(g, marks, moves, acc, onto, w, r, a, table, grown, columns);
+        count += scan_one(game, acc, onto, w, r, a, table, grown, columns);
     }
     count
 }
 
 // The same of every letter.
 pub fn scan_all(
-    g: Arena,
-    marks: &[u8],
-    moves: &[u8],
+    game: &Game,
     acc: u64,
     onto: &[u64],
     w: Row,
@@ -99,19 +93,19 @@ pub fn scan_all(
     grown: &mut [u64],
     columns: &mut [u64],
 ) -> usize
-    requires working { Working g marks.now moves.now table.old grown.old columns.old w }
-    requires accepting { Accepting (board_in g marks.now moves.now) acc }
-    requires onto { Onto (board_in g marks.now moves.now) onto.now }
-    requires letters_in_bounds { (g.letters ≤ length found.now) × AllWithin g.letters g.states found.now }
-    ensures answered_in { AnsweredIn g marks.now moves.now (growing table.old grown.old columns.old) (growing table.new grown.new columns.new) result }
-    ensures found_still { FoundStill (board_in g marks.now moves.now) g.mode table.new w.b w.q g.letters found.now }
+    requires working { Working game.now table.old grown.old columns.old w }
+    requires accepting { Accepting (board game.now) acc }
+    requires onto { Onto (board game.now) onto.now }
+    requires letters_in_bounds { (game.now.arena.letters ≤ length found.now) × AllWithin game.now.arena.letters game.now.arena.states found.now }
+    ensures answered_in { AnsweredIn game.now (growing table.old grown.old columns.old) (growing table.new grown.new columns.new) result }
+    ensures found_still { FoundStill (board game.now) game.now.arena.mode table.new w.b w.q game.now.arena.letters found.now }
 {
-    let k = g.letters;
+    let k = game.arena.letters;
     let mut count = 0;
     let mut a = 0;
     while a < k {
         count += scan_letter(
-            g, marks, moves, acc, onto, w, a, found[a], table, grown, columns,
+            game, acc, onto, w, a, found[a], table, grown, columns,
         );
         a += 1;
     }

@@ -14,7 +14,8 @@ use Rattle.simulation.proofs.Inward.{pended_lt}
 use Rattle.simulation.proofs.Limits.{layers-most, positions-most}
 use Rattle.simulation.proofs.Position.{positions_are}
 use Rattle.arena.specs.declared.Arena.{Arena}
-use Rattle.arena.specs.Arena.{board_in}
+use Rattle.arena.specs.declared.game.Game.{Game}
+use Rattle.arena.specs.Game.{board}
 use Rattle.halves.specs.Rising.{Rising}
 use Rattle.halves.specs.Half.{challenged}
 use Rattle.halves.proofs.Places.{pair_row, pair-below, duplicator-within, row_below}
@@ -70,12 +71,12 @@ pub record Placed (g : Arena) (s : Rising) (b q r : ℕ) : Type 0 where
   pub olds : b * g.states + q < length s.olds
   pub rows : b < length s.rows
 
-pub placed : (g : Arena) (marks moves : List ℕ) (s : Rising) → Raising g marks moves s → (b q r : ℕ) → b < layers g.mode → q < g.states → r < g.states
-    → Placed g s b q r
-placed g marks moves s w b q r hb hq hr = record {
+pub placed : (g : Game) (s : Rising) → Raising g s → (b q r : ℕ) → b < layers g.arena.mode → q < g.arena.states → r < g.arena.states
+    → Placed g.arena s b q r
+placed g s w b q r hb hq hr = record {
   entry = within;
-  small = omega (arith, within, w.ready.entries, positions-most B F g.mode);
-  row = bit-row-most B g.mode F b hb;
+  small = omega (arith, within, w.ready.entries, positions-most B F g.arena.mode);
+  row = bit-row-most B g.arena.mode F b hb;
   states = F.few;
   risen = omega (arith, row, w.roomy.risen);
   olds = omega (arith, row, w.roomy.olds);
@@ -83,13 +84,13 @@ placed g marks moves s w b q r hb hq hr = record {
 }
   where
     B : Board
-    B = board_in g marks moves
+    B = board g
 
     F : Formed B
     F = w.ready.formed
 
-    row : b * g.states + q < layers g.mode * g.states
-    row = row_below B g.mode F b q hb hq
+    row : b * g.arena.states + q < layers g.arena.mode * g.arena.states
+    row = row_below B g.arena.mode F b q hb hq
 
-    within : (b * g.states + q) * g.states + r < length s.table
-    within = rw (← (pair_row B b q r)) (omega (arith, pair-below B g.mode F b q r hb hq hr, positions_are B g.mode, w.ready.entries))
+    within : (b * g.arena.states + q) * g.arena.states + r < length s.table
+    within = rw (← (pair_row B b q r)) (omega (arith, pair-below B g.arena.mode F b q r hb hq hr, positions_are B g.arena.mode, w.ready.entries))

@@ -13,8 +13,8 @@ use Rattle.automaton.specs.declared.Mode.{Mode}
 use Rattle.automaton.specs.Board.{Board, Formed}
 use Rattle.simulation.specs.Position.{layers, pairs, pair}
 use Rattle.simulation.specs.Rules.{game}
-use Rattle.arena.specs.declared.Arena.{Arena}
-use Rattle.arena.specs.Arena.{board_in, Ready}
+use Rattle.arena.specs.declared.game.Game.{Game}
+use Rattle.arena.specs.Game.{board, Playable}
 use Rattle.halves.specs.Rising.{Rising, Roomy, Blank, Spoiling, Pushed, rising}
 use Rattle.halves.proofs.Places.{each-spoiler}
 use Rattle.spoilers.specs.Work.{Raising}
@@ -29,12 +29,12 @@ spoiling_start B m t ri ro ol blank = record {
   count = rose-none t (length t);
 }
 
-pub raising-start : (g : Arena) (marks moves t ri ro ol : List ℕ) → Ready g marks moves t → Roomy (board_in g marks moves) g.mode (rising t ri ro ol)
-    → Blank (board_in g marks moves) g.mode ri → Raising g marks moves (rising t ri ro ol)
-raising-start g marks moves t ri ro ol ready roomy blank = record {
+pub raising-start : (g : Game) (t ri ro ol : List ℕ) → Playable g t → Roomy (board g) g.arena.mode (rising t ri ro ol)
+    → Blank (board g) g.arena.mode ri → Raising g (rising t ri ro ol)
+raising-start g t ri ro ol ready roomy blank = record {
   ready = ready;
   roomy = roomy;
-  underway = (t, (0, spoiling_start (board_in g marks moves) g.mode t ri ro ol blank));
+  underway = (t, (0, spoiling_start (board g) g.arena.mode t ri ro ol blank));
 }
 
 module _ (B : Board) (m : Mode) (t ri ro ol : List ℕ) (u : Rising) {c : ℕ} (blank : Blank B m ri) (pushed : Pushed B m (rising t ri ro ol) u c) where

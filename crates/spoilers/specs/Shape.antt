@@ -6,19 +6,19 @@ use Rattle.automaton.specs.declared.Mode.{Mode}
 use Rattle.automaton.specs.Board.{Board, Formed}
 use Rattle.simulation.specs.Position.{layers, pairs}
 use Rattle.simulation.specs.Rules.{pended, ceiling}
-use Rattle.arena.specs.declared.Arena.{Arena}
-use Rattle.arena.specs.Arena.{board_in}
+use Rattle.arena.specs.declared.game.Game.{Game}
+use Rattle.arena.specs.Game.{board}
 use Rattle.halves.specs.Drawn.{Accepting, Into}
 use Rattle.halves.specs.Half.{ruled}
 use Rattle.spoilers.specs.declared.column.Column.{Column}
 use Rattle.spoilers.specs.Work.{gives}
 
 -- the arena is that of a checked automaton, and the word holds its accepting states
-pub record Known (g : Arena) (marks moves : List ℕ) (acc : ℕ) : Type 0 where
-  pub formed : Formed (board_in g marks moves)
-  pub paired : g.pairs ≡ pairs (board_in g marks moves) g.mode
-  pub topped : g.top ≡ ceiling (board_in g marks moves) g.mode
-  pub accepting : Accepting (board_in g marks moves) acc
+pub record Known (g : Game) (acc : ℕ) : Type 0 where
+  pub formed : Formed (board g)
+  pub paired : g.arena.pairs ≡ pairs (board g) g.arena.mode
+  pub topped : g.arena.top ≡ ceiling (board g) g.arena.mode
+  pub accepting : Accepting (board g) acc
 
 -- an entry h below `from` raises no (b,q,r); from there on, (b,q,r) asks for what h gives q, and for no more than that or what it asks for with High 0
 pub record Asking (B : Board) (m : Mode) (b r from bump : ℕ) : Type 0 where
@@ -42,7 +42,7 @@ abbrev pub ColumnOf : Board → Mode → (acc b r : ℕ) → Column → Type 0
 ColumnOf B m acc b r c = Shaped B m acc c × (c.bit ≡ b) × (c.blue ≡ r)
 
 -- what a push reads: the arena and its accepting states, the moves, and the marks, of which there is a word for each of Duplicator's columns
-pub record Reading (g : Arena) (marks moves : List ℕ) (acc : ℕ) (into grown : List ℕ) : Type 0 where
-  pub known : Known g marks moves acc
-  pub drawn : Into (board_in g marks moves) into
-  pub words : layers g.mode * g.states * g.letters ≤ length grown
+pub record Reading (g : Game) (acc : ℕ) (into grown : List ℕ) : Type 0 where
+  pub known : Known g acc
+  pub drawn : Into (board g) into
+  pub words : layers g.arena.mode * g.arena.states * g.arena.letters ≤ length grown

@@ -1,10 +1,10 @@
 // A column of Spoiler's positions, (b, q, r) for every q: how they ask, and where the entries stand that may raise them.
 ghost use Rattle.std.specs.Prelude.{◌<◌};
 ghost use Rattle.simulation.specs.Position.{layers};
-ghost use Rattle.arena.specs.Arena.{board_in};
+ghost use Rattle.arena.specs.Game.{board};
 ghost use Rattle.spoilers.specs.Shape.{Asking, ColumnOf, Known};
 
-use arena::Arena;
+use arena::Game;
 use automaton::Mode;
 
 // Column (b, ·, r): the bits b and `owing`, which b becomes when Red moves to an accepting state; the state r of Blue; the states that do
@@ -30,14 +30,14 @@ pub struct Rule {
 }
 
 // The rule of column (b, ·, r).
-fn rule_of(g: Arena, marks: &[u8], moves: &[u8], acc: u64, b: usize, r: usize) -> Rule
-    requires known { Known g marks.now moves.now acc }
-    requires b_bound { (b < layers g.mode) × (r < g.states) }
-    ensures { Asking (board_in g marks.now moves.now) g.mode b r result.from result.bump }
+fn rule_of(game: &Game, acc: u64, b: usize, r: usize) -> Rule
+    requires known { Known game.now acc }
+    requires b_bound { (b < layers game.now.arena.mode) × (r < game.now.arena.states) }
+    ensures { Asking (board game.now) game.now.arena.mode b r result.from result.bump }
 {
-    let mode = g.mode;
-    let top = g.top;
-    let states = g.states;
+    let mode = game.arena.mode;
+    let top = game.arena.top;
+    let states = game.arena.states;
     match mode {
         Mode::Ordinary => Rule { from: 0, bump: 0 },
         Mode::Direct => Rule { from: 0, bump: 0 },
@@ -66,24 +66,24 @@ fn rule_of(g: Arena, marks: &[u8], moves: &[u8], acc: u64, b: usize, r: usize) -
 }
 
 // Column (b, ·, r).
-pub fn column_at(g: Arena, marks: &[u8], moves: &[u8], acc: u64, b: usize, r: usize) -> Column
-    requires known { Known g marks.now moves.now acc }
-    requires b_bound { (b < layers g.mode) × (r < g.states) }
-    ensures { ColumnOf (board_in g marks.now moves.now) g.mode acc b r result }
+pub fn column_at(game: &Game, acc: u64, b: usize, r: usize) -> Column
+    requires known { Known game.now acc }
+    requires b_bound { (b < layers game.now.arena.mode) × (r < game.now.arena.states) }
+    ensures { ColumnOf (board game.now) game.now.arena.mode acc b r result }
 {
-    let states = g.states;
-    let letters = g.letters;
-    let mode = g.mode;
+    let states = game.arena.states;
+    let letters = game.arena.letters;
+    let mode = game.arena.mode;
     let square = states * states;
     let owing = arena::pended(mode, b);
-    let rule = rule_of(g, marks, moves, acc, b, r);
+    let rule = rule_of(game, acc, b, r);
     Column {
         bit: b,
         owing: owing,
         blue: r,
         others: words::minus(words::below(states), acc),
-        plain: g.pairs + (b * square + r) * letters,
-        marked: g.pairs + (owing * square + r) * letters,
+        plain: game.arena.pairs + (b * square + r) * letters,
+        marked: game.arena.pairs + (owing * square + r) * letters,
         from: rule.from,
         bump: rule.bump,
     }

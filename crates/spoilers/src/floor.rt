@@ -1,14 +1,14 @@
 // Spoiler's half of the first sweep, by columns: over a table of zeros High is 0, and the kind of a position tells what it asks for.
 ghost use Rattle.std.specs.Prelude.{◌<◌};
 ghost use Rattle.simulation.specs.Position.{layers};
-ghost use Rattle.arena.specs.Arena.{board_in};
+ghost use Rattle.arena.specs.Game.{board};
 ghost use Rattle.halves.specs.Rising.{Pushed, rising};
 ghost use Rattle.spoilers.specs.Floor.{AllFloored, FloorOf};
 ghost use Rattle.spoilers.specs.Shape.{Known};
 ghost use Rattle.spoilers.specs.Work.{Raising};
 
 use super::raise::put;
-use arena::Arena;
+use arena::Game;
 use automaton::Mode;
 
 // What the positions (b, q, r) of a column ask for with High 0: `value` where q is hit, and 0 elsewhere.
@@ -19,14 +19,14 @@ struct Floor {
 }
 
 // What column (b, ·, r) asks for with High 0.
-fn floor_of(g: Arena, marks: &[u8], moves: &[u8], acc: u64, b: usize, r: usize) -> Floor
-    requires known { Known g marks.now moves.now acc }
-    requires b_bound { (b < layers g.mode) × (r < g.states) }
-    ensures { FloorOf (board_in g marks.now moves.now) g.mode b r result.hit result.value }
+fn floor_of(game: &Game, acc: u64, b: usize, r: usize) -> Floor
+    requires known { Known game.now acc }
+    requires b_bound { (b < layers game.now.arena.mode) × (r < game.now.arena.states) }
+    ensures { FloorOf (board game.now) game.now.arena.mode b r result.hit result.value }
 {
-    let mode = g.mode;
-    let top = g.top;
-    let states = g.states;
+    let mode = game.arena.mode;
+    let top = game.arena.top;
+    let states = game.arena.states;
     if words::has(acc, r) {
         return Floor { hit: 0, value: 0 };
     }
@@ -51,9 +51,7 @@ fn floor_of(g: Arena, marks: &[u8], moves: &[u8], acc: u64, b: usize, r: usize) 
 
 // Raises every (b, q, r) to what it asks for with High 0.
 pub fn begin_layer(
-    g: Arena,
-    marks: &[u8],
-    moves: &[u8],
+    game: &Game,
     acc: u64,
     table: &mut [u32],
     risen: &mut [u64],
@@ -61,19 +59,19 @@ pub fn begin_layer(
     olds: &mut [u32],
     b: usize,
 ) -> usize
-    requires raising { Raising g marks.now moves.now (rising table.old risen.old rows.old olds.old) }
-    requires known { Known g marks.now moves.now acc }
-    requires b_bound { b < layers g.mode }
-    ensures pushed { Pushed (board_in g marks.now moves.now) g.mode (rising table.old risen.old rows.old olds.old) (rising table.new risen.new rows.new olds.new) result }
-    ensures all_floored { AllFloored (board_in g marks.now moves.now) g.mode table.new b }
+    requires raising { Raising game.now (rising table.old risen.old rows.old olds.old) }
+    requires known { Known game.now acc }
+    requires b_bound { b < layers game.now.arena.mode }
+    ensures pushed { Pushed (board game.now) game.now.arena.mode (rising table.old risen.old rows.old olds.old) (rising table.new risen.new rows.new olds.new) result }
+    ensures all_floored { AllFloored (board game.now) game.now.arena.mode table.new b }
 {
-    let states = g.states;
+    let states = game.arena.states;
     let mut raised = 0;
     let mut r = 0;
     while r < states {
-        let o = floor_of(g, marks, moves, acc, b, r);
+        let o = floor_of(game, acc, b, r);
         raised += put(
-            g, marks, moves, table, risen, rows, olds, b, r, o.hit, 0, o.value, o.value,
+            game, table, risen, rows, olds, b, r, o.hit, 0, o.value, o.value,
         );
         r += 1;
     }

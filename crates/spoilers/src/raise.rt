@@ -2,18 +2,16 @@
 ghost use Rattle.std.specs.Prelude.{◌≡◌, ◌≤◌, ◌<◌};
 ghost use Rattle.games.specs.Game.{asked, at};
 ghost use Rattle.simulation.specs.Position.{layers, pair};
-ghost use Rattle.arena.specs.Arena.{board_in, game_in};
+ghost use Rattle.arena.specs.Game.{board, played};
 ghost use Rattle.halves.specs.Rising.{Pushed, rising};
 ghost use Rattle.spoilers.specs.Work.{given, Hits, Holds, Raising};
 
 use super::note::note;
-use arena::Arena;
+use arena::Game;
 
 // Raises Spoiler's (b, q, r) to e, which it asks for: 1 if it rises for the first time in this half, else 0.
 pub fn raise(
-    g: Arena,
-    marks: &[u8],
-    moves: &[u8],
+    game: &Game,
     table: &mut [u32],
     risen: &mut [u64],
     rows: &mut [u64],
@@ -23,13 +21,13 @@ pub fn raise(
     r: usize,
     e: u32,
 ) -> usize
-    requires raising { Raising g marks.now moves.now (rising table.old risen.old rows.old olds.old) }
-    requires b_bound { (b < layers g.mode) × (q < g.states) × (r < g.states) }
-    requires e_bound { e ≤ asked (game_in g marks.now moves.now) (at table.old) (pair (board_in g marks.now moves.now) b q r) }
-    ensures pushed { Pushed (board_in g marks.now moves.now) g.mode (rising table.old risen.old rows.old olds.old) (rising table.new risen.new rows.new olds.new) result }
-    ensures e_bound_2 { e ≤ at table.new (pair (board_in g marks.now moves.now) b q r) }
+    requires raising { Raising game.now (rising table.old risen.old rows.old olds.old) }
+    requires b_bound { (b < layers game.now.arena.mode) × (q < game.now.arena.states) × (r < game.now.arena.states) }
+    requires e_bound { e ≤ asked (played game.now) (at table.old) (pair (board game.now) b q r) }
+    ensures pushed { Pushed (board game.now) game.now.arena.mode (rising table.old risen.old rows.old olds.old) (rising table.new risen.new rows.new olds.new) result }
+    ensures e_bound_2 { e ≤ at table.new (pair (board game.now) b q r) }
 {
-    let states = g.states;
+    let states = game.arena.states;
     let row = b * states + q;
     let i = row * states + r;
     let was = table[i];
@@ -53,9 +51,7 @@ pub fn given(bump: u64, v: u32, w: u32, q: usize) -> u32
 
 // Raises Spoiler's (b, q, r) for each q that is hit, to w where q is in the set and to v where not: how many rise for the first time in this half.
 pub fn put(
-    g: Arena,
-    marks: &[u8],
-    moves: &[u8],
+    game: &Game,
     table: &mut [u32],
     risen: &mut [u64],
     rows: &mut [u64],
@@ -67,11 +63,11 @@ pub fn put(
     v: u32,
     w: u32,
 ) -> usize
-    requires raising { Raising g marks.now moves.now (rising table.old risen.old rows.old olds.old) }
-    requires b_bound { (b < layers g.mode) × (r < g.states) }
-    requires hits { Hits (board_in g marks.now moves.now) g.mode table.old b r hit (given bump v w) }
-    ensures pushed { Pushed (board_in g marks.now moves.now) g.mode (rising table.old risen.old rows.old olds.old) (rising table.new risen.new rows.new olds.new) result }
-    ensures holds { Holds (board_in g marks.now moves.now) table.new b r hit (given bump v w) }
+    requires raising { Raising game.now (rising table.old risen.old rows.old olds.old) }
+    requires b_bound { (b < layers game.now.arena.mode) × (r < game.now.arena.states) }
+    requires hits { Hits (board game.now) game.now.arena.mode table.old b r hit (given bump v w) }
+    ensures pushed { Pushed (board game.now) game.now.arena.mode (rising table.old risen.old rows.old olds.old) (rising table.new risen.new rows.new olds.new) result }
+    ensures holds { Holds (board game.now) table.new b r hit (given bump v w) }
 {
     let mut raised = 0;
     let mut m = hit;
@@ -79,7 +75,7 @@ pub fn put(
         let q = words::lowest(m);
         m = words::rest(m);
         let e = given(bump, v, w, q);
-        raised += raise(g, marks, moves, table, risen, rows, olds, b, q, r, e);
+        raised += raise(game, table, risen, rows, olds, b, q, r, e);
     }
     raised
 }

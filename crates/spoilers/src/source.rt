@@ -4,13 +4,13 @@ ghost use Rattle.games.specs.Game.{at};
 ghost use Rattle.words.specs.Word.{dig};
 ghost use Rattle.automaton.specs.Limits.{most_letters, most_states};
 ghost use Rattle.simulation.specs.Position.{layers};
-ghost use Rattle.arena.specs.Arena.{board_in};
+ghost use Rattle.arena.specs.Game.{board};
 ghost use Rattle.halves.specs.Half.{challenged};
 ghost use Rattle.spoilers.specs.Front.{Sources};
 ghost use Rattle.spoilers.specs.Shape.{Known, Shaped};
 
 use super::column::Column;
-use arena::Arena;
+use arena::{Arena, Game};
 
 // Where the entries begin that moves to x lead to.
 fn base_of(acc: u64, c: Column, x: usize) -> usize
@@ -25,21 +25,19 @@ fn base_of(acc: u64, c: Column, x: usize) -> usize
 
 // The entry that Red's move to x by a leads to from column c.
 pub fn source(
-    g: Arena,
-    marks: &[u8],
-    moves: &[u8],
+    game: &Game,
     acc: u64,
     c: Column,
     a: usize,
     x: usize,
 ) -> usize
-    requires known { Known g marks.now moves.now acc }
-    requires shaped { Shaped (board_in g marks.now moves.now) g.mode acc c }
-    requires a_lt_letters { (a < g.letters) × (x < g.states) }
-    ensures { result ≡ challenged (board_in g marks.now moves.now) g.mode c.bit c.blue x a }
+    requires known { Known game.now acc }
+    requires shaped { Shaped (board game.now) game.now.arena.mode acc c }
+    requires a_lt_letters { (a < game.now.arena.letters) × (x < game.now.arena.states) }
+    ensures { result ≡ challenged (board game.now) game.now.arena.mode c.bit c.blue x a }
 {
-    let states = g.states;
-    let letters = g.letters;
+    let states = game.arena.states;
+    let letters = game.arena.letters;
     base_of(acc, c, x) + x * (states * letters) + a
 }
 
@@ -57,21 +55,19 @@ fn marks_at(g: Arena, grown: &[u64], b: usize, r: usize, a: usize) -> u64
 
 // The states to which moves by a lead from column c to an entry that is marked.
 pub fn sources(
-    g: Arena,
-    marks: &[u8],
-    moves: &[u8],
+    game: &Game,
     acc: u64,
     grown: &[u64],
     c: Column,
     a: usize,
 ) -> u64
-    requires known { Known g marks.now moves.now acc }
-    requires shaped { Shaped (board_in g marks.now moves.now) g.mode acc c }
-    requires letters_in_bounds { layers g.mode * g.states * g.letters ≤ length grown.now }
-    requires a_lt_letters { a < g.letters }
-    ensures { Sources (board_in g marks.now moves.now) g.mode grown.now c.bit c.blue a result }
+    requires known { Known game.now acc }
+    requires shaped { Shaped (board game.now) game.now.arena.mode acc c }
+    requires letters_in_bounds { layers game.now.arena.mode * game.now.arena.states * game.now.arena.letters ≤ length grown.now }
+    requires a_lt_letters { a < game.now.arena.letters }
+    ensures { Sources (board game.now) game.now.arena.mode grown.now c.bit c.blue a result }
 {
-    let plain = marks_at(g, grown, c.bit, c.blue, a);
-    let marked = marks_at(g, grown, c.owing, c.blue, a);
+    let plain = marks_at(game.arena, grown, c.bit, c.blue, a);
+    let marked = marks_at(game.arena, grown, c.owing, c.blue, a);
     words::join(words::meet(plain, c.others), words::meet(marked, acc))
 }

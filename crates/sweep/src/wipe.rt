@@ -1,13 +1,13 @@
 // Taking away what is noted and marked, when a half has used it. Only the rows and columns that the sets name are visited.
 ghost use Rattle.std.specs.Prelude.{◌≡◌, ℕ, ◌+◌, ◌*◌, ◌≤◌, ◌<◌, length};
-ghost use Rattle.arena.specs.Arena.{board_in};
+ghost use Rattle.arena.specs.Game.{board};
 ghost use Rattle.games.specs.Game.{at};
 ghost use Rattle.automaton.specs.Limits.{most_letters, most_states};
 ghost use Rattle.words.specs.Word.{In};
 ghost use Rattle.halves.specs.Rising.{Blank};
 ghost use Rattle.sweep.specs.Poised.{Covered, Emptied};
 
-use arena::Arena;
+use arena::{Arena, Game};
 
 // No old entry: more than any entry.
 pub const UNSEEN: u32 = 4294967295;
@@ -30,19 +30,17 @@ fn some_rows(risen: &mut [u64], olds: &mut [u32], first: usize, states: usize, s
 
 // Empties the rows that `rows` names, and `rows` itself.
 pub fn all_rows(
-    g: Arena,
-    marks: &[u8],
-    moves: &[u8],
+    game: &Game,
     risen: &mut [u64],
     rows: &mut [u64],
     olds: &mut [u32],
 )
-    requires states_le_most_states { g.states ≤ most_states }
-    requires states_in_bounds { (2 * g.states ≤ length risen.old) × (2 * g.states ≤ length olds.old) × (2 ≤ length rows.old) }
-    requires covered { Covered (board_in g marks.now moves.now) g.mode risen.old rows.old }
-    ensures { Blank (board_in g marks.now moves.now) g.mode risen.new }
+    requires states_le_most_states { game.now.arena.states ≤ most_states }
+    requires states_in_bounds { (2 * game.now.arena.states ≤ length risen.old) × (2 * game.now.arena.states ≤ length olds.old) × (2 ≤ length rows.old) }
+    requires covered { Covered (board game.now) game.now.arena.mode risen.old rows.old }
+    ensures { Blank (board game.now) game.now.arena.mode risen.new }
 {
-    let states = g.states;
+    let states = game.arena.states;
     some_rows(risen, olds, 0, states, rows[0]);
     some_rows(risen, olds, states, states, rows[1]);
     rows[0] = 0;

@@ -1,8 +1,5 @@
 -- The laws of sums: a stretch in rows and columns, and the members of a set counted.
-use mathlib.Core.Path.{◌≡◌, refl, sym, ap, ◌∙◌}
-use Prim.Native.Nat.{ℕ, zero, suc, ◌+◌, ◌*◌, ◌/◌, ◌%◌, ◌^◌, ◌<◌}
-use native.Mathlib.Nat.{suc-mul, pow-suc}
-use native.Mathlib.Omega.{arith}
+use Rattle.std.proofs.Common.{◌≡◌, refl, sym, ap, ◌∙◌, ℕ, zero, suc, ◌+◌, ◌*◌, ◌/◌, ◌%◌, ◌^◌, ◌<◌, suc-mul, pow-suc, arith}
 use lib.Count.{ones, ones_step}
 use Rattle.words.specs.Sum.{sum}
 use Rattle.words.specs.Word.{dig}

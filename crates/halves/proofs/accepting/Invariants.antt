@@ -5,7 +5,7 @@ use Rattle.halves.proofs.Drawing.{Seen}
 use Rattle.halves.proofs.accepting.Given as goal
 
 abbrev pub invariant-loop-q : goal.invariant-loop-q
-invariant-loop-q l = (l.q ≤ length l.marks) × Seen l.marks l.acc l.q
+invariant-loop-q l = (l.q ≤ length l.game.marks.now) × Seen l.game.marks.now l.acc l.q
 
 abbrev pub decreases-loop-q : goal.decreases-loop-q
-decreases-loop-q l = length l.marks - l.q
+decreases-loop-q l = length l.game.marks.now - l.q

@@ -6,14 +6,14 @@ use native.Mathlib.Omega.{arith}
 use lib.ListN.{length}
 use Rattle.automaton.specs.Board.{from, letter, to}
 use Rattle.arena.specs.declared.Arena.{Arena}
-use Rattle.arena.specs.Arena.{board_in}
+use Rattle.arena.specs.Game.{board}
 use Rattle.halves.proofs.Drawing.{drawn-none, drawn-more, into_drawn, onto-drawn}
 use Rattle.halves.proofs.draw.Goals as goal
 
 pub loop-i-init : goal.loop-i-init
 loop-i-init c =
-    let ms = c.args.moves.now in
-    let k = c.args.g.letters in (
+    let ms = c.args.game.now.moves.now in
+    let k = c.args.game.now.arena.letters in (
       omega arith,
       refl,
       refl,
@@ -26,8 +26,8 @@ loop-i-preserved c =
     let source : ℕ = c.wide-from.result in
     let sign : ℕ = c.wide-letter.result in
     let goal : ℕ = c.wide-to.result in
-    let arena : Arena = c.args.g in
-    let ms = c.args.moves.now in
+    let arena : Arena = c.args.game.now.arena in
+    let ms = c.args.game.now.moves.now in
     let k = arena.letters in
     let x : source ≡ from ms c.loop-i.i = c.wide-from.ensures in
     let y : sign ≡ letter ms c.loop-i.i = c.wide-letter.ensures in
@@ -42,7 +42,7 @@ loop-i-preserved c =
 
 pub returns : goal.returns
 returns c =
-    let B = board_in c.args.g c.args.marks.now c.args.moves.now in
+    let B = board c.args.game.now in
     let (h, u, v, p, q) = c.loop-i.invariant in
-    let all : c.loop-i.i ≡ length c.args.moves.now / 3 = omega arith in
+    let all : c.loop-i.i ≡ length c.args.game.now.moves.now / 3 = omega arith in
     record { into = into_drawn B c.requires.formed c.loop-i.into (omega (arith, c.requires.letters_in_bounds.0)) (rw all at p); onto = onto-drawn B c.requires.formed c.loop-i.onto (omega (arith, c.requires.letters_in_bounds.1)) (rw all at q) }

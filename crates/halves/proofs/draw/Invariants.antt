@@ -7,7 +7,7 @@ use Rattle.halves.proofs.Drawing.{DrawnInto, DrawnOnto}
 use Rattle.halves.proofs.draw.Given as goal
 
 abbrev pub invariant-loop-i : goal.invariant-loop-i
-invariant-loop-i l = (l.i ≤ l.count) × (length l.into ≡ length l.initial.into) × (length l.onto ≡ length l.initial.onto) × DrawnInto l.letters l.moves l.i l.into × DrawnOnto l.letters l.moves l.i l.onto
+invariant-loop-i l = (l.i ≤ l.count) × (length l.into ≡ length l.initial.into) × (length l.onto ≡ length l.initial.onto) × DrawnInto l.letters l.game.moves.now l.i l.into × DrawnOnto l.letters l.game.moves.now l.i l.onto
 
 abbrev pub decreases-loop-i : goal.decreases-loop-i
 decreases-loop-i l = l.count - l.i

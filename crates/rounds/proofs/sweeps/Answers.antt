@@ -6,7 +6,7 @@ use native.Mathlib.Nat.{zero-add}
 use native.Mathlib.Omega.{arith}
 use Rattle.games.specs.Game.{Game}
 use Rattle.games.proofs.Sweeping.{Sweeping, sweeping_none, sweeping_raised}
-use Rattle.arena.specs.Arena.{board_in, game_in}
+use Rattle.arena.specs.Game.{board, played}
 use Rattle.sweep.proofs.Room.{Lists, Alike, alike_none, alike_more, equipped_again}
 use Rattle.rounds.proofs.Onward.{onward, onward-less, onward-done, bound-most}
 use Rattle.rounds.proofs.sweeps.Goals as goal
@@ -17,7 +17,7 @@ first-raised-requires c =
 
 pub returns-then-raised-eq0 : goal.returns-then-raised-eq0
 returns-then-raised-eq0 c =
-    let game : Game = game_in c.args.g c.args.marks.now c.args.moves.now in
+    let game : Game = played c.args.game.now in
     let left : Lists =
     record {
       table = c.first-raised.new.table;
@@ -31,9 +31,9 @@ returns-then-raised-eq0 c =
     let both = onward-done game left.table none c.first-raised.ensures.value c.first-raised.ensures.table_after c.if-raised-eq0.true in
     record { value = both.0; table_after = both.1 }
 
-pub loop-g-init : goal.loop-g-init
-loop-g-init c =
-    let game : Game = game_in c.args.g c.args.marks.now c.args.moves.now in
+pub sweeping-init : goal.sweeping-init
+sweeping-init c =
+    let game : Game = played c.args.game.now in
     let left : Lists =
     record {
       table = c.first-raised.new.table;
@@ -78,19 +78,19 @@ again-more-requires c =
     } in
     let held : Lists =
     record {
-      table = c.loop-g.table;
-      risen = c.loop-g.risen;
-      rows = c.loop-g.rows;
-      olds = c.loop-g.olds;
-      grown = c.loop-g.grown;
-      columns = c.loop-g.columns;
+      table = c.sweeping.table;
+      risen = c.sweeping.risen;
+      rows = c.sweeping.rows;
+      olds = c.sweeping.olds;
+      grown = c.sweeping.grown;
+      columns = c.sweeping.columns;
     } in
-    let alike-held : Alike lent held = alike_more alike-first c.loop-g.invariant.0 in
-    record { equipped = equipped_again c.requires.equipped (alike-held); poised = c.loop-g.invariant.1 }
+    let alike-held : Alike lent held = alike_more alike-first c.sweeping.invariant.0 in
+    record { equipped = equipped_again c.requires.equipped (alike-held); poised = c.sweeping.invariant.1 }
 
 pub returns-then-more-eq0 : goal.returns-then-more-eq0
 returns-then-more-eq0 c =
-    let game : Game = game_in c.args.g c.args.marks.now c.args.moves.now in
+    let game : Game = played c.args.game.now in
     let left-again : Lists =
     record {
       table = c.again-more.new.table;
@@ -100,12 +100,12 @@ returns-then-more-eq0 c =
       grown = c.again-more.new.grown;
       columns = c.again-more.new.columns;
     } in
-    let both = onward-done game left-again.table c.loop-g.invariant.2 c.again-more.ensures.value c.again-more.ensures.table_after c.if-more-eq0.true in
+    let both = onward-done game left-again.table c.sweeping.invariant.2 c.again-more.ensures.value c.again-more.ensures.table_after c.if-more-eq0.true in
     record { value = both.0; table_after = both.1 }
 
 pub overflow_add-raised : goal.overflow_add-raised
 overflow_add-raised c =
-    let game : Game = game_in c.args.g c.args.marks.now c.args.moves.now in
+    let game : Game = played c.args.game.now in
     let left-again : Lists =
     record {
       table = c.again-more.new.table;
@@ -115,16 +115,16 @@ overflow_add-raised c =
       grown = c.again-more.new.grown;
       columns = c.again-more.new.columns;
     } in
-    let more : 0 < c.again-more.result → Sweeping game (c.loop-g.raised + c.again-more.result) left-again.table = λ h. onward game left-again.table c.loop-g.invariant.2 c.again-more.ensures.value c.again-more.ensures.table_after h in
+    let more : 0 < c.again-more.result → Sweeping game (c.sweeping.raised + c.again-more.result) left-again.table = λ h. onward game left-again.table c.sweeping.invariant.2 c.again-more.ensures.value c.again-more.ensures.table_after h in
     omega (
       arith,
-      bound-most (board_in c.args.g c.args.marks.now c.args.moves.now) c.args.g.mode c.requires.equipped.ready.formed,
-      sweeping_raised game (c.loop-g.raised + c.again-more.result) left-again.table (more (omega (arith, c.if-more-eq0.false))),
+      bound-most (board c.args.game.now) c.args.game.now.arena.mode c.requires.equipped.ready.formed,
+      sweeping_raised game (c.sweeping.raised + c.again-more.result) left-again.table (more (omega (arith, c.if-more-eq0.false))),
     )
 
-pub loop-g-smaller : goal.loop-g-smaller
-loop-g-smaller c =
-    let game : Game = game_in c.args.g c.args.marks.now c.args.moves.now in
+pub sweeping-smaller : goal.sweeping-smaller
+sweeping-smaller c =
+    let game : Game = played c.args.game.now in
     let left-again : Lists =
     record {
       table = c.again-more.new.table;
@@ -134,19 +134,19 @@ loop-g-smaller c =
       grown = c.again-more.new.grown;
       columns = c.again-more.new.columns;
     } in
-    onward-less game left-again.table c.loop-g.invariant.2 c.again-more.ensures.value c.again-more.ensures.table_after (omega (arith, c.if-more-eq0.false))
+    onward-less game left-again.table c.sweeping.invariant.2 c.again-more.ensures.value c.again-more.ensures.table_after (omega (arith, c.if-more-eq0.false))
 
-pub loop-g-preserved : goal.loop-g-preserved
-loop-g-preserved c =
-    let game : Game = game_in c.args.g c.args.marks.now c.args.moves.now in
+pub sweeping-preserved : goal.sweeping-preserved
+sweeping-preserved c =
+    let game : Game = played c.args.game.now in
     let held : Lists =
     record {
-      table = c.loop-g.table;
-      risen = c.loop-g.risen;
-      rows = c.loop-g.rows;
-      olds = c.loop-g.olds;
-      grown = c.loop-g.grown;
-      columns = c.loop-g.columns;
+      table = c.sweeping.table;
+      risen = c.sweeping.risen;
+      rows = c.sweeping.rows;
+      olds = c.sweeping.olds;
+      grown = c.sweeping.grown;
+      columns = c.sweeping.columns;
     } in
     let left-again : Lists =
     record {
@@ -166,5 +166,5 @@ loop-g-preserved c =
       like_grown = c.again-more.auto.grown;
       like_columns = c.again-more.auto.columns;
     } in
-    let more : 0 < c.again-more.result → Sweeping game (c.loop-g.raised + c.again-more.result) left-again.table = λ h. onward game left-again.table c.loop-g.invariant.2 c.again-more.ensures.value c.again-more.ensures.table_after h in
-    (alike_more c.loop-g.invariant.0 alike-again, c.again-more.ensures.poised_2, more (omega (arith, c.if-more-eq0.false)))
+    let more : 0 < c.again-more.result → Sweeping game (c.sweeping.raised + c.again-more.result) left-again.table = λ h. onward game left-again.table c.sweeping.invariant.2 c.again-more.ensures.value c.again-more.ensures.table_after h in
+    (alike_more c.sweeping.invariant.0 alike-again, c.again-more.ensures.poised_2, more (omega (arith, c.if-more-eq0.false)))

@@ -4,16 +4,16 @@ use Prim.Native.Nat.{◌-◌}
 use Rattle.games.specs.Lift.{bound}
 use Rattle.games.proofs.Raises.{total}
 use Rattle.games.proofs.Sweeping.{Sweeping}
-use Rattle.arena.specs.Arena.{board_in, game_in}
+use Rattle.arena.specs.Game.{board, played}
 use Rattle.sweep.specs.Poised.{Poised}
 use Rattle.sweep.proofs.Room.{lists, Alike}
 use Rattle.rounds.proofs.sweeps.Given as goal
 
-abbrev pub invariant-loop-g : goal.invariant-loop-g
-invariant-loop-g l =
+abbrev pub invariant-sweeping : goal.invariant-sweeping
+invariant-sweeping l =
     Alike (lists l.initial.table l.initial.risen l.initial.rows l.initial.olds l.initial.grown l.initial.columns) (lists l.table l.risen l.rows l.olds l.grown l.columns)
-    × Poised (board_in l.g l.marks l.moves) l.g.mode l.table l.risen l.grown l.columns
-    × Sweeping (game_in l.g l.marks l.moves) l.raised l.table
+    × Poised (board l.game) l.game.arena.mode l.table l.risen l.grown l.columns
+    × Sweeping (played l.game) l.raised l.table
 
-abbrev pub decreases-loop-g : goal.decreases-loop-g
-decreases-loop-g l = bound (game_in l.g l.marks l.moves) - total l.table
+abbrev pub decreases-sweeping : goal.decreases-sweeping
+decreases-sweeping l = bound (played l.game) - total l.table

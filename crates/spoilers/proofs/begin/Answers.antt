@@ -4,7 +4,7 @@ use native.Mathlib.Nat.{le_trans}
 use native.Mathlib.Omega.{arith}
 use Rattle.automaton.specs.Board.{Board}
 use Rattle.simulation.proofs.Limits.{layers-most}
-use Rattle.arena.specs.Arena.{board_in}
+use Rattle.arena.specs.Game.{board}
 use Rattle.halves.specs.Rising.{Rising, Spoiling, rising}
 use Rattle.spoilers.specs.Work.{Raising}
 use Rattle.spoilers.specs.Shape.{Known}
@@ -22,47 +22,47 @@ pub begin_layer-raised-requires : goal.begin_layer-raised-requires
 begin_layer-raised-requires c =
     let first : Rising = rising c.args.table.now c.args.risen.now c.args.rows.now c.args.olds.now in
     let s : Rising = rising c.loop-b.table c.loop-b.risen c.loop-b.rows c.loop-b.olds in
-    let begins : Raising c.args.g c.args.marks.now c.args.moves.now first =
+    let begins : Raising c.args.game.now first =
     let a = c.args in
-    raising-start a.g a.marks.now a.moves.now a.table.now a.risen.now a.rows.now a.olds.now c.requires.ready c.requires.roomy c.requires.blank in
-    let works : Raising c.args.g c.args.marks.now c.args.moves.now s = raising-kept begins c.loop-b.invariant.pushed c.loop-b.invariant.sized in
-    let known : Known c.args.g c.args.marks.now c.args.moves.now c.args.acc =
+    raising-start a.game.now a.table.now a.risen.now a.rows.now a.olds.now c.requires.ready c.requires.roomy c.requires.blank in
+    let works : Raising c.args.game.now s = raising-kept begins c.loop-b.invariant.pushed c.loop-b.invariant.sized in
+    let known : Known c.args.game.now c.args.acc =
     record { formed = c.requires.ready.formed; paired = c.requires.ready.paired; topped = c.requires.ready.topped; accepting = c.requires.accepting } in
     record { raising = works; known = known; b_bound = omega (arith, c.loop-b-test.true, c.layers_of-layers.ensures) }
 
 pub overflow_add-raised : goal.overflow_add-raised
 overflow_add-raised c =
-    let B : Board = board_in c.args.g c.args.marks.now c.args.moves.now in
+    let B : Board = board c.args.game.now in
     let first : Rising = rising c.args.table.now c.args.risen.now c.args.rows.now c.args.olds.now in
-    let begins : Raising c.args.g c.args.marks.now c.args.moves.now first =
+    let begins : Raising c.args.game.now first =
     let a = c.args in
-    raising-start a.g a.marks.now a.moves.now a.table.now a.risen.now a.rows.now a.olds.now c.requires.ready c.requires.roomy c.requires.blank in
-    omega (arith, raising-most begins (pushed_then B c.args.g.mode c.loop-b.invariant.pushed c.begin_layer-raised.ensures.pushed))
+    raising-start a.game.now a.table.now a.risen.now a.rows.now a.olds.now c.requires.ready c.requires.roomy c.requires.blank in
+    omega (arith, raising-most begins (pushed_then B c.args.game.now.arena.mode c.loop-b.invariant.pushed c.begin_layer-raised.ensures.pushed))
 
 pub overflow_add-b : goal.overflow_add-b
-overflow_add-b c = omega (arith, c.loop-b-test.true, c.layers_of-layers.ensures, layers-most c.args.g.mode)
+overflow_add-b c = omega (arith, c.loop-b-test.true, c.layers_of-layers.ensures, layers-most c.args.game.now.arena.mode)
 
 pub loop-b-smaller : goal.loop-b-smaller
 loop-b-smaller c = omega (arith, c.loop-b-test.true)
 
 pub loop-b-preserved : goal.loop-b-preserved
 loop-b-preserved c =
-    let B : Board = board_in c.args.g c.args.marks.now c.args.moves.now in
+    let B : Board = board c.args.game.now in
     let first : Rising = rising c.args.table.now c.args.risen.now c.args.rows.now c.args.olds.now in
     let s : Rising = rising c.loop-b.table c.loop-b.risen c.loop-b.rows c.loop-b.olds in
     let a = c.args in
-    upto_more B a.g.mode (AllFloored B a.g.mode) first s _ _ _ _ c.loop-b.invariant c.begin_layer-raised.ensures.pushed
+    upto_more B a.game.now.arena.mode (AllFloored B a.game.now.arena.mode) first s _ _ _ _ c.loop-b.invariant c.begin_layer-raised.ensures.pushed
     (record { risen = c.begin_layer-raised.auto.risen; rows = c.begin_layer-raised.auto.rows; olds = c.begin_layer-raised.auto.olds }) c.begin_layer-raised.ensures.all_floored (λ y h i j q n. le_trans (h i j q n) (c.begin_layer-raised.ensures.pushed.grown _))
 
 pub returns : goal.returns
 returns c =
-    let B : Board = board_in c.args.g c.args.marks.now c.args.moves.now in
+    let B : Board = board c.args.game.now in
     let s : Rising = rising c.loop-b.table c.loop-b.risen c.loop-b.rows c.loop-b.olds in
-    let ended : Spoiling B c.args.g.mode c.args.table.now s c.loop-b.raised =
+    let ended : Spoiling B c.args.game.now.arena.mode c.args.table.now s c.loop-b.raised =
     let a = c.args in
-    all_spoiling B a.g.mode a.table.now a.risen.now a.rows.now a.olds.now s c.requires.blank c.loop-b.invariant.pushed in
+    all_spoiling B a.game.now.arena.mode a.table.now a.risen.now a.rows.now a.olds.now s c.requires.blank c.loop-b.invariant.pushed in
     let a = c.args in
-    let half = whole B a.g.mode a.table.now a.risen.now a.rows.now a.olds.now s c.requires.blank c.loop-b.invariant.pushed c.requires.ready.formed
-    (λ b q r hb hq hr. zeros-asked B a.g.mode c.requires.ready.formed a.table.now c.requires.by_index b q r _ hb hq hr
+    let half = whole B a.game.now.arena.mode a.table.now a.risen.now a.rows.now a.olds.now s c.requires.blank c.loop-b.invariant.pushed c.requires.ready.formed
+    (λ b q r hb hq hr. zeros-asked B a.game.now.arena.mode c.requires.ready.formed a.table.now c.requires.by_index b q r _ hb hq hr
     (c.loop-b.invariant.each b (omega (arith, c.loop-b-test.false, c.layers_of-layers.ensures)) r hr q hq)) in
     record { halved = rw c.requires.ready.paired half; value = sym ended.count; all_noted = ended.noted }

@@ -3,7 +3,7 @@ use mathlib.Core.Path.{sym}
 use native.Mathlib.Omega.{arith}
 use Rattle.automaton.specs.Board.{Board}
 use Rattle.simulation.proofs.Limits.{layers-most}
-use Rattle.arena.specs.Arena.{board_in}
+use Rattle.arena.specs.Game.{board}
 use Rattle.halves.specs.Rising.{Rising, Spoiling, rising}
 use Rattle.spoilers.specs.Work.{Working}
 use Rattle.spoilers.specs.Shape.{Known}
@@ -22,49 +22,49 @@ pub pull_layer-raised-requires : goal.pull_layer-raised-requires
 pull_layer-raised-requires c =
     let first : Rising = rising c.args.table.now c.args.risen.now c.args.rows.now c.args.olds.now in
     let s : Rising = rising c.loop-b.table c.loop-b.risen c.loop-b.rows c.loop-b.olds in
-    let begins : Working c.args.g c.args.marks.now c.args.moves.now first =
+    let begins : Working c.args.game.now first =
     let a = c.args in
-    working_start a.g a.marks.now a.moves.now a.table.now a.risen.now a.rows.now a.olds.now
+    working_start a.game.now a.table.now a.risen.now a.rows.now a.olds.now
     c.requires.ready c.requires.roomy c.requires.capped c.requires.by_index c.requires.blank in
-    let works : Working c.args.g c.args.marks.now c.args.moves.now s = working_kept begins c.loop-b.invariant.pushed c.loop-b.invariant.sized in
-    let known : Known c.args.g c.args.marks.now c.args.moves.now c.args.acc =
+    let works : Working c.args.game.now s = working_kept begins c.loop-b.invariant.pushed c.loop-b.invariant.sized in
+    let known : Known c.args.game.now c.args.acc =
     record { formed = c.requires.ready.formed; paired = c.requires.ready.paired; topped = c.requires.ready.topped; accepting = c.requires.accepting } in
     record { working = works; known = known; onto = c.requires.onto; b_bound = omega (arith, c.loop-b-test.true, c.layers_of-layers.ensures) }
 
 pub overflow_add-raised : goal.overflow_add-raised
 overflow_add-raised c =
-    let B : Board = board_in c.args.g c.args.marks.now c.args.moves.now in
+    let B : Board = board c.args.game.now in
     let first : Rising = rising c.args.table.now c.args.risen.now c.args.rows.now c.args.olds.now in
-    let begins : Working c.args.g c.args.marks.now c.args.moves.now first =
+    let begins : Working c.args.game.now first =
     let a = c.args in
-    working_start a.g a.marks.now a.moves.now a.table.now a.risen.now a.rows.now a.olds.now
+    working_start a.game.now a.table.now a.risen.now a.rows.now a.olds.now
     c.requires.ready c.requires.roomy c.requires.capped c.requires.by_index c.requires.blank in
-    omega (arith, raising-most begins.raising (pushed_then B c.args.g.mode c.loop-b.invariant.pushed c.pull_layer-raised.ensures.pushed))
+    omega (arith, raising-most begins.raising (pushed_then B c.args.game.now.arena.mode c.loop-b.invariant.pushed c.pull_layer-raised.ensures.pushed))
 
 pub overflow_add-b : goal.overflow_add-b
-overflow_add-b c = omega (arith, c.loop-b-test.true, c.layers_of-layers.ensures, layers-most c.args.g.mode)
+overflow_add-b c = omega (arith, c.loop-b-test.true, c.layers_of-layers.ensures, layers-most c.args.game.now.arena.mode)
 
 pub loop-b-smaller : goal.loop-b-smaller
 loop-b-smaller c = omega (arith, c.loop-b-test.true)
 
 pub loop-b-preserved : goal.loop-b-preserved
 loop-b-preserved c =
-    let B : Board = board_in c.args.g c.args.marks.now c.args.moves.now in
+    let B : Board = board c.args.game.now in
     let first : Rising = rising c.args.table.now c.args.risen.now c.args.rows.now c.args.olds.now in
     let s : Rising = rising c.loop-b.table c.loop-b.risen c.loop-b.rows c.loop-b.olds in
     let a = c.args in
-    upto_more B a.g.mode (AllHeed B a.g.mode) first s _ _ _ _ c.loop-b.invariant c.pull_layer-raised.ensures.pushed
-    (record { risen = c.pull_layer-raised.auto.risen; rows = c.pull_layer-raised.auto.rows; olds = c.pull_layer-raised.auto.olds }) c.pull_layer-raised.ensures.all_heed (λ y h. all_heed_kept B a.g.mode c.pull_layer-raised.ensures.pushed y h)
+    upto_more B a.game.now.arena.mode (AllHeed B a.game.now.arena.mode) first s _ _ _ _ c.loop-b.invariant c.pull_layer-raised.ensures.pushed
+    (record { risen = c.pull_layer-raised.auto.risen; rows = c.pull_layer-raised.auto.rows; olds = c.pull_layer-raised.auto.olds }) c.pull_layer-raised.ensures.all_heed (λ y h. all_heed_kept B a.game.now.arena.mode c.pull_layer-raised.ensures.pushed y h)
 
 pub returns : goal.returns
 returns c =
-    let B : Board = board_in c.args.g c.args.marks.now c.args.moves.now in
+    let B : Board = board c.args.game.now in
     let s : Rising = rising c.loop-b.table c.loop-b.risen c.loop-b.rows c.loop-b.olds in
-    let ended : Spoiling B c.args.g.mode c.args.table.now s c.loop-b.raised =
+    let ended : Spoiling B c.args.game.now.arena.mode c.args.table.now s c.loop-b.raised =
     let a = c.args in
-    all_spoiling B a.g.mode a.table.now a.risen.now a.rows.now a.olds.now s c.requires.blank c.loop-b.invariant.pushed in
+    all_spoiling B a.game.now.arena.mode a.table.now a.risen.now a.rows.now a.olds.now s c.requires.blank c.loop-b.invariant.pushed in
     let a = c.args in
-    let covered = pull_covered B a.g.mode c.loop-b.invariant.pushed c.requires.ready.formed c.requires.by_index
+    let covered = pull_covered B a.game.now.arena.mode c.loop-b.invariant.pushed c.requires.ready.formed c.requires.by_index
     (λ b h. c.loop-b.invariant.each b (omega (arith, c.loop-b-test.false, c.layers_of-layers.ensures))) in
-    let half = whole B a.g.mode a.table.now a.risen.now a.rows.now a.olds.now s c.requires.blank c.loop-b.invariant.pushed c.requires.ready.formed covered in
+    let half = whole B a.game.now.arena.mode a.table.now a.risen.now a.rows.now a.olds.now s c.requires.blank c.loop-b.invariant.pushed c.requires.ready.formed covered in
     record { halved = rw c.requires.ready.paired half; value = sym ended.count; all_noted = ended.noted }

@@ -2,7 +2,7 @@
 use mathlib.Core.Path.{◌∙◌}
 use native.Mathlib.Omega.{arith}
 use Rattle.automaton.specs.Board.{Board}
-use Rattle.arena.specs.Arena.{board_in}
+use Rattle.arena.specs.Game.{board}
 use Rattle.duplicators.proofs.Ending.{ending-start, ending-more}
 use Rattle.duplicators.proofs.Part.{part-few}
 use Rattle.duplicators.proofs.ends.end_layer.Goals as goal
@@ -17,8 +17,8 @@ overflow_add-count c =
 
 pub loop-q-preserved : goal.loop-q-preserved
 loop-q-preserved c =
-    let board : Board = board_in c.args.g c.args.marks.now c.args.moves.now in (
+    let B : Board = board c.args.game.now in (
       omega (arith, c.loop-q-test.true),
-      ending-more board c.args.g.mode c.args.found.now c.requires.ready.formed c.requires.letters_in_bounds.1 c.scan_all-count.ensures.answered_in c.requires.ready.entries c.requires.b_bound c.loop-q-test.true
+      ending-more B c.args.game.now.arena.mode c.args.found.now c.requires.ready.formed c.requires.letters_in_bounds.1 c.scan_all-count.ensures.answered_in c.requires.ready.entries c.requires.b_bound c.loop-q-test.true
           c.loop-q.invariant.1 (rw (c.row_at-w.ensures.b_value.0, c.row_at-w.ensures.b_value.1) at c.scan_all-count.ensures.found_still),
     )

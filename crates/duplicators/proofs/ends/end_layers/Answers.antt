@@ -4,7 +4,7 @@ use Prim.Native.Nat.{◌<◌}
 use native.Mathlib.Omega.{arith}
 use Rattle.automaton.specs.Board.{Board}
 use Rattle.simulation.specs.Position.{layers}
-use Rattle.arena.specs.Arena.{board_in}
+use Rattle.arena.specs.Game.{board}
 use Rattle.duplicators.proofs.Ending.{ended-start, ended-more}
 use Rattle.duplicators.proofs.Part.{part-few}
 use Rattle.duplicators.proofs.ends.end_layers.Goals as goal
@@ -19,9 +19,9 @@ overflow_add-count c =
 
 pub loop-b-preserved : goal.loop-b-preserved
 loop-b-preserved c =
-    let board : Board = board_in c.args.g c.args.marks.now c.args.moves.now in
-    let below : c.loop-b.b < layers c.args.g.mode = omega (arith, c.loop-b-test.true, c.layers_of-layers.ensures) in (
+    let B : Board = board c.args.game.now in
+    let below : c.loop-b.b < layers c.args.game.now.arena.mode = omega (arith, c.loop-b-test.true, c.layers_of-layers.ensures) in (
       omega (arith, below),
-      ended-more board c.args.g.mode c.args.found.now c.requires.ready.formed c.requires.letters_in_bounds.1 c.end_layer-count.ensures.answered_in c.requires.ready.entries below
+      ended-more B c.args.game.now.arena.mode c.args.found.now c.requires.ready.formed c.requires.letters_in_bounds.1 c.end_layer-count.ensures.answered_in c.requires.ready.entries below
           c.loop-b.invariant.1 c.end_layer-count.ensures.layer_found,
     )

@@ -2,7 +2,7 @@
 use mathlib.Core.Path.{◌∙◌}
 use native.Mathlib.Omega.{arith}
 use Rattle.automaton.specs.Board.{Board}
-use Rattle.arena.specs.Arena.{board_in}
+use Rattle.arena.specs.Game.{board}
 use Rattle.duplicators.proofs.Part.{part-few}
 use Rattle.duplicators.proofs.Work.{letters-start, letters-more}
 use Rattle.duplicators.proofs.scans.scan_all.Goals as goal
@@ -17,9 +17,9 @@ overflow_add-count c =
 
 pub loop-a-preserved : goal.loop-a-preserved
 loop-a-preserved c =
-    let board : Board = board_in c.args.g c.args.marks.now c.args.moves.now in
+    let B : Board = board c.args.game.now in
     let o = c.requires.working in (
       omega (arith, c.loop-a-test.true),
-      letters-more board c.args.g.mode c.args.w.b c.args.w.q c.args.found.now o.ready.formed o.ready.entries o.rowed.bit o.rowed.red c.loop-a-test.true c.requires.letters_in_bounds.1
+      letters-more B c.args.game.now.arena.mode c.args.w.b c.args.w.q c.args.found.now o.ready.formed o.ready.entries o.rowed.bit o.rowed.red c.loop-a-test.true c.requires.letters_in_bounds.1
           c.loop-a.invariant.1 c.scan_letter-count.ensures.answered_in c.scan_letter-count.ensures.letter_still,
     )

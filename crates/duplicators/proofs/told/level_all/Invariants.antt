@@ -1,12 +1,12 @@
 -- `duplicators::told::level_all` meets its contract: the candidates of the letters before a are at rest.
 use Prim.Native.Nat.{◌-◌, ◌≤◌}
-use Rattle.arena.specs.Arena.{board_in}
+use Rattle.arena.specs.Game.{board}
 use Rattle.duplicators.specs.Growing.{growing}
 use Rattle.duplicators.proofs.Work.{Letters}
 use Rattle.duplicators.proofs.told.level_all.Given as goal
 
 abbrev pub invariant-loop-a : goal.invariant-loop-a
-invariant-loop-a l = (l.a ≤ l.g.letters) × Letters (board_in l.g l.marks l.moves) l.g.mode l.w.b l.w.q l.found (growing l.initial.table l.initial.grown l.initial.columns) (growing l.table l.grown l.columns) l.a l.raised
+invariant-loop-a l = (l.a ≤ l.game.arena.letters) × Letters (board l.game) l.game.arena.mode l.w.b l.w.q l.found (growing l.initial.table l.initial.grown l.initial.columns) (growing l.table l.grown l.columns) l.a l.raised
 
 abbrev pub decreases-loop-a : goal.decreases-loop-a
-decreases-loop-a l = l.g.letters - l.a
+decreases-loop-a l = l.game.arena.letters - l.a

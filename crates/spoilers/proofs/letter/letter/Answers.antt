@@ -3,7 +3,7 @@
 use native.Mathlib.Omega.{arith}
 use Rattle.words.specs.Word.{Pop}
 use Rattle.automaton.specs.Board.{Board}
-use Rattle.arena.specs.Arena.{board_in}
+use Rattle.arena.specs.Game.{board}
 use Rattle.halves.specs.Rising.{Rising, rising}
 use Rattle.spoilers.specs.Work.{Working}
 use Rattle.spoilers.specs.Front.{Heard}
@@ -22,14 +22,14 @@ loop-m-init c = (through_start _ _ _ _ _, c.requires.guarded)
 pub push_one-f-requires : goal.push_one-f-requires
 push_one-f-requires c =
     let s : Rising = rising c.loop-m.table c.loop-m.risen c.loop-m.rows c.loop-m.olds in
-    let works : Working c.args.g c.args.marks.now c.args.moves.now s = working_kept c.requires.working c.loop-m.invariant.0.pushed c.loop-m.invariant.0.sized in
+    let works : Working c.args.game.now s = working_kept c.requires.working c.loop-m.invariant.0.pushed c.loop-m.invariant.0.sized in
     let pop : Pop c.loop-m.m c.lowest-x.result c.rest-m.result = popped c.lowest-x.ensures c.rest-m.ensures in
     record { working = works; known = c.requires.reading.known; into = c.requires.reading.drawn; shaped = c.requires.shaped; a_lt_letters = (c.requires.a_lt_letters, c.sources-m.ensures.states c.lowest-x.result (c.loop-m.invariant.0.sub c.lowest-x.result pop.here)); guarded = c.loop-m.invariant.1 }
 
 pub overflow_add-raised : goal.overflow_add-raised
 overflow_add-raised c =
-    let B : Board = board_in c.args.g c.args.marks.now c.args.moves.now in
-    omega (arith, raising-most c.requires.working.raising (pushed_then B c.args.g.mode c.loop-m.invariant.0.pushed c.push_one-f.ensures.pushed))
+    let B : Board = board c.args.game.now in
+    omega (arith, raising-most c.requires.working.raising (pushed_then B c.args.game.now.arena.mode c.loop-m.invariant.0.pushed c.push_one-f.ensures.pushed))
 
 pub loop-m-smaller : goal.loop-m-smaller
 loop-m-smaller c =
@@ -38,21 +38,21 @@ loop-m-smaller c =
 
 pub loop-m-preserved : goal.loop-m-preserved
 loop-m-preserved c =
-    let B : Board = board_in c.args.g c.args.marks.now c.args.moves.now in
+    let B : Board = board c.args.game.now in
     let first : Rising = rising c.args.table.now c.args.risen.now c.args.rows.now c.args.olds.now in
     let s : Rising = rising c.loop-m.table c.loop-m.risen c.loop-m.rows c.loop-m.olds in
     let pop : Pop c.loop-m.m c.lowest-x.result c.rest-m.result = popped c.lowest-x.ensures c.rest-m.ensures in
     let a = c.args in (
-      through_more B a.g.mode _ (Heard B a.g.mode a.c.bit a.c.blue a.a) first s _ _ _ _ _ _ c.loop-m.invariant.0 pop c.push_one-f.ensures.pushed
-          (record { risen = c.push_one-f.auto.risen; rows = c.push_one-f.auto.rows; olds = c.push_one-f.auto.olds }) c.push_one-f.ensures.heard (λ y h. heard_kept B a.g.mode c.push_one-f.ensures.pushed a.c.bit a.c.blue a.a y h),
+      through_more B a.game.now.arena.mode _ (Heard B a.game.now.arena.mode a.c.bit a.c.blue a.a) first s _ _ _ _ _ _ c.loop-m.invariant.0 pop c.push_one-f.ensures.pushed
+          (record { risen = c.push_one-f.auto.risen; rows = c.push_one-f.auto.rows; olds = c.push_one-f.auto.olds }) c.push_one-f.ensures.heard (λ y h. heard_kept B a.game.now.arena.mode c.push_one-f.ensures.pushed a.c.bit a.c.blue a.a y h),
       c.push_one-f.ensures.guarded_2,
     )
 
 pub returns : goal.returns
 returns c =
-    let B : Board = board_in c.args.g c.args.marks.now c.args.moves.now in
+    let B : Board = board c.args.game.now in
     let first : Rising = rising c.args.table.now c.args.risen.now c.args.rows.now c.args.olds.now in
     let s : Rising = rising c.loop-m.table c.loop-m.risen c.loop-m.rows c.loop-m.olds in
     let a = c.args in
-    let done = through_end B a.g.mode _ (Heard B a.g.mode a.c.bit a.c.blue a.a) first s _ _ c.loop-m.invariant.0 c.loop-m-test.false in
+    let done = through_end B a.game.now.arena.mode _ (Heard B a.game.now.arena.mode a.c.bit a.c.blue a.a) first s _ _ c.loop-m.invariant.0 c.loop-m-test.false in
     record { pushed = c.loop-m.invariant.0.pushed; guarded_2 = c.loop-m.invariant.1; lettered = λ x h i. done x (c.sources-m.ensures.all x h i) }

@@ -22,5 +22,5 @@ loop-a-preserved c = (omega (arith, c.loop-a-test.true), high-more _ _ _ _ _ _ _
 
 pub returns : goal.returns
 returns c =
-    let e : c.loop-a.a ≡ c.args.g.letters = omega (arith, c.loop-a-test.false, c.loop-a.invariant.0) in
+    let e : c.loop-a.a ≡ c.args.game.now.arena.letters = omega (arith, c.loop-a-test.false, c.loop-a.invariant.0) in
     rw e at c.loop-a.invariant.1

@@ -4,7 +4,7 @@ use Prim.Native.Nat.{ℕ, ◌≤◌}
 use Rattle.games.specs.Game.{at}
 use Rattle.automaton.specs.Board.{Board}
 use Rattle.simulation.specs.Position.{pair}
-use Rattle.arena.specs.Arena.{board_in}
+use Rattle.arena.specs.Game.{board}
 use Rattle.halves.specs.Rising.{rising}
 use Rattle.spoilers.specs.Work.{given}
 use Rattle.spoilers.proofs.Through.{Through}
@@ -14,7 +14,7 @@ abbrev pub Has : Board → (b r bump v w : ℕ) → (t : List ℕ) → ℕ → T
 Has B b r bump v w t q = given bump v w q ≤ at t (pair B b q r)
 
 abbrev pub invariant-loop-m : goal.invariant-loop-m
-invariant-loop-m l = Through (board_in l.g l.marks l.moves) l.g.mode l.hit (Has (board_in l.g l.marks l.moves) l.b l.r l.bump l.v l.w) (rising l.initial.table l.initial.risen l.initial.rows l.initial.olds) (rising l.table l.risen l.rows l.olds) l.raised l.m
+invariant-loop-m l = Through (board l.game) l.game.arena.mode l.hit (Has (board l.game) l.b l.r l.bump l.v l.w) (rising l.initial.table l.initial.risen l.initial.rows l.initial.olds) (rising l.table l.risen l.rows l.olds) l.raised l.m
 
 abbrev pub decreases-loop-m : goal.decreases-loop-m
 decreases-loop-m l = l.m
