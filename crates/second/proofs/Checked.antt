@@ -1,12 +1,11 @@
 -- An automaton that `check` accepts is well formed.
-use Rattle.std.proofs.Common.{◌≡◌, ℕ}
+use Rattle.std.proofs.Common.{◌≡◌, refl, ℕ, Ok}
+use Rattle.automaton.specs.Answer.{accepted}
 use Rattle.automaton.specs.Board.{Board, Formed}
-use Rattle.automaton.specs.Check.{answer_of, checked}
-use Rattle.automaton.specs.declared.Checked.{Checked}
-use Rattle.automaton.specs.declared.Checked.TheVariants.{Sound}
+use Rattle.automaton.specs.Check.{checked}
 use Rattle.automaton.proofs.One.{checked-none}
 use Rattle.automaton.proofs.Sound.{automaton-line}
 
-pub formed : (B : Board) (start : ℕ) (r : Checked) → r ≡ Sound → answer_of r ≡ checked B start → Formed B
+pub formed : (B : Board) (start : ℕ) → accepted ≡ checked B start → Formed B
 unfolding checked
-formed B start r sound told = ((automaton-line B start).0 (checked-none _ r sound told)).0
+formed B start told = ((automaton-line B start).0 (checked-none _ (Ok tt) refl told)).0

@@ -11,7 +11,7 @@ ghost use Rattle.std.specs.Prelude.{◌≡◌, ◌*◌, ◌≤◌, ◌<◌, leng
 ghost use Rattle.automaton.specs.Limits.{most_states};
 
 use self::rules::{Positions, Rules};
-use automaton::{Automaton, Checked, Mode, Named, Refusal};
+use automaton::{Automaton, Mode, Refusal};
 
 // Writes a byte for each pair of states, 1 if Duplicator wins it: the number of ones. Refusals 1 to 8, and 16.
 pub fn relation(
@@ -21,23 +21,18 @@ pub fn relation(
     mode: usize,
     out: &mut [u8],
 ) -> Result<usize, Refusal> {
-    match automaton::check(a, marks, moves) {
-        Checked::Refused(refusal) => return Err(refusal),
-        Checked::Sound => {}
-    }
-    let Named::Known(mode) = Mode::named(mode) else {
-        return Err(Refusal::ModeNumber);
-    };
+    automaton::check(a, marks, moves)?;
+    let mode = Mode::try_from(mode)?;
     if out.len() != a.states * a.states {
         return Err(Refusal::OutputLength);
     }
-    let successors = rules::successors(moves);
+    let next = rules::successors(moves);
     let rules = Rules {
         states: a.states,
         letters: a.letters,
         mode,
         accepting: rules::accepting(marks),
-        successors: &successors,
+        successors: &next,
     };
     Ok(write(rules, &rules.winning(), out))
 }
