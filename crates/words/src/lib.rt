@@ -12,7 +12,7 @@ pub fn lowest(m: u64) -> usize
     requires { m ≢ 0 }
     ensures { result ≡ count_trailing_zeros 64 m }
 {
-    u64::trailing_zeros(m) as usize
+    m.trailing_zeros() as usize
 }
 
 // The set without its lowest member.
@@ -75,7 +75,7 @@ pub fn meet(a: u64, b: u64) -> u64
 pub fn size(m: u64) -> usize
     ensures { result ≡ sum (dig m) 64 }
 {
-    u64::count_ones(m) as usize
+    m.count_ones() as usize
 }
 
 // The members of a set that are still to come, the lowest first.
