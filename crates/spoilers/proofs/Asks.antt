@@ -1,11 +1,5 @@
 -- How a column asks, by the kinds of its positions.
-use mathlib.Core.Path.{◌≡◌, refl, sym, ap, ◌∙◌}
-use mathlib.Core.Logic.{◌⊎◌, inl, inr}
-use mathlib.Core.Bool.{Bool, true, false, cond}
-use Prim.Native.Nat.{ℕ, suc, ◌+◌, ◌≤◌, ◌<◌, min, max}
-use native.Mathlib.Nat.{le_refl}
-use native.Mathlib.Omega.{arith}
-use borrow.Author.Tests.{eq-eqb, ne_eqb}
+use Rattle.std.proofs.Common.{◌≡◌, refl, sym, ap, ◌∙◌, ◌⊎◌, inl, inr, Bool, true, false, cond, ℕ, suc, ◌+◌, ◌≤◌, ◌<◌, min, max, le_refl, arith, eq-eqb, ne_eqb}
 use Rattle.games.specs.Game.{Kind, high, counting, resetting, idle, lost, full}
 use Rattle.games.specs.Half.{rule}
 use Rattle.games.proofs.Asked.{Full, full-cases}

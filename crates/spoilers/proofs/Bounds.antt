@@ -1,10 +1,6 @@
 -- Products of numbers within the limits: what positions are counted by is small.
-use mathlib.Core.List.{List}
-use Prim.Native.Nat.{ℕ, ◌+◌, ◌*◌, ◌≤◌, ◌<◌}
-use native.Mathlib.Nat.{mul-le-mul}
-use native.Mathlib.Omega.{arith}
+use Rattle.std.proofs.Common.{ℕ, ◌+◌, ◌*◌, ◌≤◌, ◌<◌, mul-le-mul, arith, length}
 use lib.Arith.{digits_lt}
-use lib.ListN.{length}
 use Rattle.automaton.specs.declared.Mode.{Mode}
 use Rattle.automaton.specs.Board.{Board, accepts, Formed}
 use Rattle.automaton.specs.Limits.{most_letters, most_states}

@@ -1,13 +1,5 @@
 -- Where the moves into a column come from: the entries they lead to, and the words that mark them.
-use mathlib.Core.Path.{◌≡◌, refl, sym, ap, ◌∙◌}
-use mathlib.Core.Logic.{◌⊎◌, inl, inr, ⊎_elim}
-use mathlib.Core.Bool.{Bool, true, false, cond}
-use mathlib.Core.List.{List}
-use Prim.Native.Nat.{ℕ, ◌+◌, ◌*◌, ◌<◌}
-use native.Mathlib.Nat.{add-mul, mul_assoc}
-use native.Mathlib.Omega.{arith}
-use lib.Dec.{eqb}
-use borrow.Author.Tests.{eq-eqb, ne_eqb}
+use Rattle.std.proofs.Common.{◌≡◌, refl, sym, ap, ◌∙◌, ◌⊎◌, inl, inr, ⊎_elim, Bool, true, false, cond, List, ℕ, ◌+◌, ◌*◌, ◌<◌, add-mul, mul_assoc, arith, eqb, eq-eqb, ne_eqb}
 use Rattle.games.specs.Game.{at}
 use Rattle.words.specs.Word.{dig, In, Met, Joined, Below}
 use Rattle.words.proofs.Sets.{in_or-out, met_in, met_right, joined_in_left, joined_in_right, joined-cases}

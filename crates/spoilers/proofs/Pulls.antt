@@ -1,10 +1,5 @@
 -- High over Red's moves, member by member and letter by letter, and a position raised to what it asks for: after it every move is heeded.
-use mathlib.Core.Path.{◌≡◌, refl, subst, ap, ◌∙◌}
-use mathlib.Core.Logic.{◌⊎◌, inl, inr}
-use mathlib.Core.List.{List}
-use Prim.Native.Nat.{ℕ, suc, ◌+◌, ◌*◌, ◌≤◌, ◌<◌, min, max}
-use native.Mathlib.Nat.{le_refl, le_trans}
-use native.Mathlib.Omega.{arith}
+use Rattle.std.proofs.Common.{◌≡◌, refl, subst, ap, ◌∙◌, ◌⊎◌, inl, inr, List, ℕ, suc, ◌+◌, ◌*◌, ◌≤◌, ◌<◌, min, max, le_refl, le_trans, arith}
 use native.Mathlib.Decide.{dec_le, dec_lt}
 use Rattle.games.specs.Game.{asked, at}
 use Rattle.games.proofs.Rule.{rule_mono, rule-floor}

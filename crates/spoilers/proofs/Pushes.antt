@@ -1,10 +1,5 @@
 -- One entry pushed into a column: who is hit asks for it, and after it every move to its state is heeded.
-use mathlib.Core.Path.{◌≡◌}
-use mathlib.Core.Logic.{◌⊎◌, inl, inr}
-use mathlib.Core.List.{List}
-use Prim.Native.Nat.{ℕ, suc, ◌≤◌, ◌<◌, min, max}
-use native.Mathlib.Nat.{le_trans}
-use native.Mathlib.Omega.{arith}
+use Rattle.std.proofs.Common.{◌≡◌, ◌⊎◌, inl, inr, List, ℕ, suc, ◌≤◌, ◌<◌, min, max, le_trans, arith}
 use Rattle.games.specs.Game.{asked, at}
 use Rattle.games.proofs.Rule.{rule-under}
 use Rattle.words.specs.Word.{dig, In}

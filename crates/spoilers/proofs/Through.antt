@@ -1,9 +1,5 @@
 -- Loops whose turns are parts of the half: through the members of a set, and through numbers. What is left, and what holds where it is done.
-use mathlib.Core.Path.{◌≡◌}
-use mathlib.Core.Logic.{◌⊎◌, inl, inr}
-use mathlib.Core.List.{List}
-use Prim.Native.Nat.{ℕ, ◌+◌, ◌<◌}
-use native.Mathlib.Omega.{arith}
+use Rattle.std.proofs.Common.{◌≡◌, ◌⊎◌, inl, inr, List, ℕ, ◌+◌, ◌<◌, arith}
 use native.Mathlib.Decide.{dec_lt}
 use Rattle.words.specs.Word.{In, Pop}
 use Rattle.words.proofs.Sets.{empty, pop_cases, pop_sub}

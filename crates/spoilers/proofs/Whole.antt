@@ -1,10 +1,5 @@
 -- The whole of Spoiler's half: how it begins, and that parts after which every position has what it asks for make it.
-use mathlib.Core.Path.{◌≡◌, refl, subst}
-use mathlib.Core.Logic.{◌⊎◌, inl, inr}
-use mathlib.Core.List.{List}
-use Prim.Native.Nat.{ℕ, ◌≤◌, ◌<◌, max}
-use native.Mathlib.Omega.{arith}
-use lib.ListN.{length}
+use Rattle.std.proofs.Common.{◌≡◌, refl, subst, ◌⊎◌, inl, inr, List, ℕ, ◌≤◌, ◌<◌, max, arith, length}
 use Rattle.games.specs.Game.{asked, at}
 use Rattle.games.specs.Half.{Halved}
 use Rattle.games.proofs.Half.{half_from}

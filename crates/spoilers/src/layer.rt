@@ -88,9 +88,7 @@ pub fn layer(
     while m != 0 {
         let r = words::lowest(m);
         m = words::rest(m);
-        raised += column(
-            game, acc, into, grown, table, risen, rows, olds, b, r,
-        );
+        raised += column(game, acc, into, grown, table, risen, rows, olds, b, r);
     }
     raised
 }

@@ -57,9 +57,7 @@ pub fn push(
     let mut raised = 0;
     let mut b = 0;
     while b < layers {
-        raised += layer(
-            game, acc, into, grown, columns, table, risen, rows, olds, b,
-        );
+        raised += layer(game, acc, into, grown, columns, table, risen, rows, olds, b);
         b += 1;
     }
     raised

@@ -45,14 +45,7 @@ fn high_by(
 }
 
 // High over Red's moves from q, from column c.
-fn high_of(
-    game: &Game,
-    acc: u64,
-    onto: &[u64],
-    table: &[u32],
-    c: Column,
-    q: usize,
-) -> u32
+fn high_of(game: &Game, acc: u64, onto: &[u64], table: &[u32], c: Column, q: usize) -> u32
     requires ready { Playable game.now table.now }
     requires known { Known game.now acc }
     requires onto { Onto (board game.now) onto.now }
@@ -96,9 +89,7 @@ fn pull_one(
     }
     let w = bumped(h, game.arena.top);
     let e = given(c.bump, h, w, q);
-    raise(
-        game, table, risen, rows, olds, c.bit, q, c.blue, e,
-    )
+    raise(game, table, risen, rows, olds, c.bit, q, c.blue, e)
 }
 
 // Raises every entry of column (b, ·, r) to what it asks for.

@@ -24,13 +24,7 @@ fn base_of(acc: u64, c: Column, x: usize) -> usize
 }
 
 // The entry that Red's move to x by a leads to from column c.
-pub fn source(
-    game: &Game,
-    acc: u64,
-    c: Column,
-    a: usize,
-    x: usize,
-) -> usize
+pub fn source(game: &Game, acc: u64, c: Column, a: usize, x: usize) -> usize
     requires known { Known game.now acc }
     requires shaped { Shaped (board game.now) game.now.arena.mode acc c }
     requires a_lt_letters { (a < game.now.arena.letters) × (x < game.now.arena.states) }
@@ -54,13 +48,7 @@ fn marks_at(g: Arena, grown: &[u64], b: usize, r: usize, a: usize) -> u64
 }
 
 // The states to which moves by a lead from column c to an entry that is marked.
-pub fn sources(
-    game: &Game,
-    acc: u64,
-    grown: &[u64],
-    c: Column,
-    a: usize,
-) -> u64
+pub fn sources(game: &Game, acc: u64, grown: &[u64], c: Column, a: usize) -> u64
     requires known { Known game.now acc }
     requires shaped { Shaped (board game.now) game.now.arena.mode acc c }
     requires letters_in_bounds { layers game.now.arena.mode * game.now.arena.states * game.now.arena.letters ≤ length grown.now }

@@ -1,7 +1,5 @@
 -- `spoilers::begin` meets its contract. The invariant: the positions with a bit below b have what they ask for with High 0. The measure is the number of bits left.
-use mathlib.Core.Path.{sym}
-use native.Mathlib.Nat.{le_trans}
-use native.Mathlib.Omega.{arith}
+use Rattle.std.proofs.Common.{sym, le_trans, arith}
 use Rattle.automaton.specs.Board.{Board}
 use Rattle.simulation.proofs.Limits.{layers-most}
 use Rattle.arena.specs.Game.{board}

@@ -1,5 +1,5 @@
 -- `spoilers::begin` meets its contract. The invariant: the positions with a bit below b have what they ask for with High 0. The measure is the number of bits left.
-use Prim.Native.Nat.{◌-◌}
+use Rattle.std.proofs.Common.{◌-◌}
 use Rattle.arena.specs.Game.{board}
 use Rattle.halves.specs.Rising.{rising}
 use Rattle.spoilers.specs.Floor.{AllFloored}

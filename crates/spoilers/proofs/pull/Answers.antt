@@ -1,6 +1,5 @@
 -- `spoilers::pull` meets its contract. The invariant: the positions with a bit below b heed all of their moves. The measure is the number of bits left.
-use mathlib.Core.Path.{sym}
-use native.Mathlib.Omega.{arith}
+use Rattle.std.proofs.Common.{sym, arith}
 use Rattle.automaton.specs.Board.{Board}
 use Rattle.simulation.proofs.Limits.{layers-most}
 use Rattle.arena.specs.Game.{board}

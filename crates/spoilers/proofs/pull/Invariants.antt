@@ -1,5 +1,5 @@
 -- `spoilers::pull` meets its contract. The invariant: the positions with a bit below b heed all of their moves. The measure is the number of bits left.
-use Prim.Native.Nat.{◌-◌}
+use Rattle.std.proofs.Common.{◌-◌}
 use Rattle.arena.specs.Game.{board}
 use Rattle.halves.specs.Rising.{rising}
 use Rattle.spoilers.specs.Pull.{AllHeed}

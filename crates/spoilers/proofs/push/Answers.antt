@@ -1,6 +1,5 @@
 -- `spoilers::push` meets its contract. The invariant: all that is marked for the bits below b is heeded. The measure is the number of bits left.
-use mathlib.Core.Path.{sym}
-use native.Mathlib.Omega.{arith}
+use Rattle.std.proofs.Common.{sym, arith}
 use Rattle.automaton.specs.Board.{Board}
 use Rattle.simulation.proofs.Limits.{layers-most}
 use Rattle.arena.specs.Game.{board}

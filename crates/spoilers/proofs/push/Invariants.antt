@@ -1,5 +1,5 @@
 -- `spoilers::push` meets its contract. The invariant: all that is marked for the bits below b is heeded. The measure is the number of bits left.
-use Prim.Native.Nat.{◌-◌, ◌≤◌}
+use Rattle.std.proofs.Common.{◌-◌, ◌≤◌}
 use Rattle.arena.specs.Game.{board}
 use Rattle.halves.specs.Rising.{rising}
 use Rattle.spoilers.specs.Front.{Layered}

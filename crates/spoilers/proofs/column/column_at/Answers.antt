@@ -1,8 +1,5 @@
 -- `spoilers::column::column_at` meets its contract: each part is what it is called, and within the limits every product and sum is small.
-use mathlib.Core.Path.{refl}
-use mathlib.Core.Bool.{true}
-use Prim.Native.Nat.{ℕ, ◌+◌, ◌*◌, ◌≤◌, ◌<◌}
-use native.Mathlib.Omega.{arith}
+use Rattle.std.proofs.Common.{refl, true, ℕ, ◌+◌, ◌*◌, ◌≤◌, ◌<◌, arith}
 use Rattle.words.proofs.Sets.{minus-sub}
 use Rattle.automaton.specs.Board.{Board}
 use Rattle.simulation.specs.Position.{layers}

@@ -1,8 +1,5 @@
 -- `spoilers::column::rule_of` meets its contract: in each mode the tests tell the kinds of the column's positions.
-use mathlib.Core.Path.{◌≡◌, ap}
-use mathlib.Core.Bool.{true, false}
-use Prim.Native.Nat.{ℕ, ◌+◌}
-use native.Mathlib.Omega.{arith}
+use Rattle.std.proofs.Common.{◌≡◌, ap, true, false, ℕ, ◌+◌, arith, inl, inr}
 use Rattle.words.proofs.Sets.{in_or-out}
 use Rattle.automaton.specs.Board.{Board, accepts}
 use Rattle.simulation.proofs.Limits.{layers-most, ceiling-most}
@@ -10,7 +7,6 @@ use Rattle.arena.specs.Game.{board}
 use Rattle.spoilers.specs.Shape.{Known}
 use Rattle.spoilers.proofs.Members.{has_in, has-not}
 use Rattle.spoilers.proofs.Asks.{accepting_in, accepting-out, asking-plain, asking_reset, asking-idle, asking-count, direct_kinds}
-use Rattle.std.proofs.Common.{inl, inr}
 use Rattle.spoilers.proofs.column.rule_of.Goals as goal
 
 pub returns-then-b-eq0 : goal.returns-then-b-eq0

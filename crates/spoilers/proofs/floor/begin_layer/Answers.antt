@@ -1,6 +1,5 @@
 -- `spoilers::floor::begin_layer` meets its contract. The invariant: the columns below r have what they ask for with High 0. The measure is the number of columns left.
-use native.Mathlib.Nat.{le_trans}
-use native.Mathlib.Omega.{arith}
+use Rattle.std.proofs.Common.{le_trans, arith}
 use Rattle.automaton.specs.Board.{Board}
 use Rattle.arena.specs.Game.{board}
 use Rattle.halves.specs.Rising.{Rising, rising}

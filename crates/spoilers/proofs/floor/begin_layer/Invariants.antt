@@ -1,5 +1,5 @@
 -- `spoilers::floor::begin_layer` meets its contract. The invariant: the columns below r have what they ask for with High 0. The measure is the number of columns left.
-use Prim.Native.Nat.{◌-◌}
+use Rattle.std.proofs.Common.{◌-◌}
 use Rattle.arena.specs.Game.{board}
 use Rattle.halves.specs.Rising.{rising}
 use Rattle.spoilers.specs.Floor.{Floored}

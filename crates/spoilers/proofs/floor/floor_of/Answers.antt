@@ -1,7 +1,5 @@
 -- `spoilers::floor::floor_of` meets its contract: in each mode the tests tell what the kinds of the column's positions ask for with High 0.
-use mathlib.Core.Path.{◌≡◌}
-use mathlib.Core.Bool.{true, false}
-use native.Mathlib.Omega.{arith}
+use Rattle.std.proofs.Common.{◌≡◌, true, false, arith}
 use Rattle.automaton.specs.Board.{Board, accepts}
 use Rattle.simulation.proofs.Limits.{layers-most}
 use Rattle.arena.specs.Game.{board}

@@ -1,5 +1,5 @@
 -- `spoilers::front::bumped` meets its contract: below top there is room for one more.
-use native.Mathlib.Omega.{arith}
+use Rattle.std.proofs.Common.{arith}
 use Rattle.spoilers.proofs.front.bumped.Goals as goal
 
 pub overflow_add-result : goal.overflow_add-result

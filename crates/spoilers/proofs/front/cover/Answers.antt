@@ -1,5 +1,5 @@
 -- `spoilers::front::cover` meets its contract: by which of the two is greater.
-use native.Mathlib.Omega.{arith}
+use Rattle.std.proofs.Common.{arith}
 use Rattle.spoilers.proofs.Fronts.{cover_new, cover_old, cover-both}
 use Rattle.spoilers.proofs.front.cover.Goals as goal
 

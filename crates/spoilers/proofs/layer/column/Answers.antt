@@ -1,6 +1,6 @@
 -- `spoilers::layer::column` meets its contract. The invariant: all that is marked by the letters below a is heeded, and those done have had the greatest entry.
 -- The measure is the number of letters left.
-use native.Mathlib.Omega.{arith}
+use Rattle.std.proofs.Common.{arith}
 use Rattle.words.proofs.Sets.{empty}
 use Rattle.automaton.specs.Board.{Board}
 use Rattle.arena.specs.Game.{board}

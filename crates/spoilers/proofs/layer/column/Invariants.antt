@@ -1,6 +1,6 @@
 -- `spoilers::layer::column` meets its contract. The invariant: all that is marked by the letters below a is heeded, and those done have had the greatest entry.
 -- The measure is the number of letters left.
-use Prim.Native.Nat.{◌-◌, ◌≤◌}
+use Rattle.std.proofs.Common.{◌-◌, ◌≤◌}
 use Rattle.arena.specs.Game.{board}
 use Rattle.halves.specs.Rising.{rising}
 use Rattle.spoilers.specs.Front.{Guarded, Lettered}

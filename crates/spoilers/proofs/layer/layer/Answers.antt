@@ -1,5 +1,5 @@
 -- `spoilers::layer::layer` meets its contract. The invariant: all that is marked for the columns that are not left is heeded. The measure is what is left, as a number.
-use native.Mathlib.Omega.{arith}
+use Rattle.std.proofs.Common.{arith}
 use Rattle.words.specs.Word.{Pop}
 use Rattle.automaton.specs.Board.{Board, accepts}
 use Rattle.simulation.proofs.Moves.{move-within}

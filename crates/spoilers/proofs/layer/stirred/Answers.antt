@@ -1,8 +1,5 @@
 -- `spoilers::layer::stirred` meets its contract: what a move to an accepting state and to another may come from.
-use mathlib.Core.Path.{refl, ap}
-use mathlib.Core.Bool.{true}
-use Prim.Native.Nat.{◌<◌}
-use native.Mathlib.Omega.{arith}
+use Rattle.std.proofs.Common.{refl, ap, true, ◌<◌, arith}
 use Rattle.games.specs.Game.{at}
 use Rattle.simulation.specs.Position.{layers}
 use Rattle.simulation.proofs.Inward.{pended_lt}

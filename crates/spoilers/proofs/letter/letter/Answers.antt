@@ -1,6 +1,6 @@
 -- `spoilers::letter::letter` meets its contract. The invariant: the sources that are not left are heeded, and those done have had the greatest entry.
 -- The measure is what is left, as a number.
-use native.Mathlib.Omega.{arith}
+use Rattle.std.proofs.Common.{arith}
 use Rattle.words.specs.Word.{Pop}
 use Rattle.automaton.specs.Board.{Board}
 use Rattle.arena.specs.Game.{board}

@@ -1,8 +1,5 @@
 -- `spoilers::letter::push_one` meets its contract: a small entry is heeded already, and another is put to those before x that have had less.
-use mathlib.Core.Path.{◌≡◌, ap, ◌∙◌}
-use mathlib.Core.List.{List}
-use Prim.Native.Nat.{ℕ, suc, ◌+◌, ◌*◌, ◌≤◌, ◌<◌, min}
-use native.Mathlib.Omega.{arith}
+use Rattle.std.proofs.Common.{◌≡◌, ap, ◌∙◌, List, ℕ, suc, ◌+◌, ◌*◌, ◌≤◌, ◌<◌, min, arith}
 use Rattle.games.specs.Game.{at}
 use Rattle.words.specs.Word.{In}
 use Rattle.automaton.specs.Board.{Board}

@@ -1,6 +1,5 @@
 -- `spoilers::note::note` meets its contract: it is noted already, or the three writes note it.
-use mathlib.Core.Path.{refl}
-use mathlib.Core.Logic.{inl, inr}
+use Rattle.std.proofs.Common.{refl, inl, inr}
 use Rattle.games.specs.Game.{at}
 use Rattle.spoilers.proofs.Members.{has_in, has-not}
 use Rattle.spoilers.proofs.note.note.Goals as goal

@@ -1,8 +1,6 @@
 -- `spoilers::pulling::high_by` meets its contract. The invariant: h is the greatest of `high` and of what the members that are not left lead to.
 -- The measure is what is left, as a number.
-use mathlib.Core.Path.{ap}
-use Prim.Native.Nat.{ℕ, ◌+◌, ◌*◌, ◌≤◌, ◌<◌}
-use native.Mathlib.Omega.{arith}
+use Rattle.std.proofs.Common.{ap, ℕ, ◌+◌, ◌*◌, ◌≤◌, ◌<◌, arith}
 use Rattle.games.specs.Game.{at}
 use Rattle.words.specs.Word.{Pop}
 use Rattle.automaton.specs.Board.{Board}

@@ -1,6 +1,6 @@
 -- `spoilers::pulling::high_by` meets its contract. The invariant: h is the greatest of `high` and of what the members that are not left lead to.
 -- The measure is what is left, as a number.
-use Prim.Native.Nat.{◌+◌, ◌*◌}
+use Rattle.std.proofs.Common.{◌+◌, ◌*◌}
 use Rattle.games.specs.Game.{at}
 use Rattle.arena.specs.Game.{board}
 use Rattle.halves.specs.Half.{challenged}

@@ -1,6 +1,5 @@
 -- `spoilers::pulling::high_of` meets its contract. The invariant: h is High by the letters below a. The measure is the number of letters left.
-use mathlib.Core.Path.{◌≡◌}
-use native.Mathlib.Omega.{arith}
+use Rattle.std.proofs.Common.{◌≡◌, arith}
 use Rattle.spoilers.proofs.Pulls.{high-none, high-more}
 use Rattle.spoilers.proofs.pulling.high_of.Goals as goal
 

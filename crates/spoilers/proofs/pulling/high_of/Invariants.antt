@@ -1,5 +1,5 @@
 -- `spoilers::pulling::high_of` meets its contract. The invariant: h is High by the letters below a. The measure is the number of letters left.
-use Prim.Native.Nat.{◌-◌, ◌≤◌}
+use Rattle.std.proofs.Common.{◌-◌, ◌≤◌}
 use Rattle.arena.specs.Game.{board}
 use Rattle.spoilers.specs.Pull.{HighTo}
 use Rattle.spoilers.proofs.pulling.high_of.Given as goal

@@ -1,5 +1,5 @@
 -- `spoilers::pulling::pull_column` meets its contract. The invariant: the positions of the states below q heed all of their moves. The measure is the number of states left.
-use native.Mathlib.Omega.{arith}
+use Rattle.std.proofs.Common.{arith}
 use Rattle.automaton.specs.Board.{Board}
 use Rattle.arena.specs.Game.{board}
 use Rattle.halves.specs.Rising.{Rising, rising}

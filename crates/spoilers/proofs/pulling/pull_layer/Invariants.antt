@@ -1,5 +1,5 @@
 -- `spoilers::pulling::pull_layer` meets its contract. The invariant: the columns below r heed all of their moves. The measure is the number of columns left.
-use Prim.Native.Nat.{◌-◌}
+use Rattle.std.proofs.Common.{◌-◌}
 use Rattle.arena.specs.Game.{board}
 use Rattle.halves.specs.Rising.{rising}
 use Rattle.spoilers.specs.Pull.{ColumnHeeds}

@@ -1,8 +1,5 @@
 -- `spoilers::pulling::pull_one` meets its contract: a small High is heeded already, and for another the entry is raised to what High gives it.
-use mathlib.Core.Path.{◌≡◌, ap, ◌∙◌}
-use mathlib.Core.List.{List}
-use Prim.Native.Nat.{ℕ, suc, ◌≤◌, min}
-use native.Mathlib.Omega.{arith}
+use Rattle.std.proofs.Common.{◌≡◌, ap, ◌∙◌, List, ℕ, suc, ◌≤◌, min, arith}
 use Rattle.games.specs.Game.{at}
 use Rattle.automaton.specs.Board.{Board}
 use Rattle.simulation.specs.Position.{pair}

@@ -1,5 +1,5 @@
 -- `spoilers::raise::given` meets its contract: the test for a member chooses.
-use mathlib.Core.Path.{sym, ◌∙◌}
+use Rattle.std.proofs.Common.{sym, ◌∙◌}
 use Rattle.spoilers.proofs.raise.given.Goals as goal
 
 pub returns-then-has : goal.returns-then-has

@@ -1,8 +1,5 @@
 -- `spoilers::raise::put` meets its contract. The invariant: the members of hit that are not left have what they are given. The measure is what is left, as a number.
-use mathlib.Core.List.{List}
-use Prim.Native.Nat.{ℕ, ◌≤◌}
-use native.Mathlib.Nat.{le_trans}
-use native.Mathlib.Omega.{arith}
+use Rattle.std.proofs.Common.{List, ℕ, ◌≤◌, le_trans, arith}
 use Rattle.games.specs.Game.{at}
 use Rattle.words.specs.Word.{Pop}
 use Rattle.automaton.specs.Board.{Board}

@@ -1,6 +1,5 @@
 -- `spoilers::raise::put` meets its contract. The invariant: the members of hit that are not left have what they are given. The measure is what is left, as a number.
-use mathlib.Core.List.{List}
-use Prim.Native.Nat.{ℕ, ◌≤◌}
+use Rattle.std.proofs.Common.{List, ℕ, ◌≤◌}
 use Rattle.games.specs.Game.{at}
 use Rattle.automaton.specs.Board.{Board}
 use Rattle.simulation.specs.Position.{pair}

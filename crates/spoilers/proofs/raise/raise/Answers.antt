@@ -1,6 +1,5 @@
 -- `spoilers::raise::raise` meets its contract: the entry has e already, or e is written and noted.
-use mathlib.Core.Path.{sym}
-use native.Mathlib.Omega.{arith}
+use Rattle.std.proofs.Common.{sym, arith}
 use Rattle.automaton.specs.Board.{Board}
 use Rattle.arena.specs.Game.{board}
 use Rattle.halves.specs.Rising.{Rising, rising}

@@ -1,5 +1,5 @@
 -- `spoilers::source::base_of` meets its contract: the test for a member chooses.
-use mathlib.Core.Path.{sym, ◌∙◌}
+use Rattle.std.proofs.Common.{sym, ◌∙◌}
 use Rattle.spoilers.proofs.source.base_of.Goals as goal
 
 pub returns-then-has : goal.returns-then-has

@@ -1,5 +1,5 @@
 -- `spoilers::source::marks_at` meets its contract: there is a word for each column, and its number is small.
-use native.Mathlib.Omega.{arith}
+use Rattle.std.proofs.Common.{arith}
 use Rattle.spoilers.proofs.Bounds.{Worded, worded}
 use Rattle.spoilers.proofs.source.marks_at.Goals as goal
 

@@ -1,7 +1,5 @@
 -- `spoilers::source::source` meets its contract: the sum is the position's number, and so it is small.
-use mathlib.Core.Path.{◌≡◌, ap, ◌∙◌}
-use Prim.Native.Nat.{ℕ, ◌+◌, ◌*◌, ◌<◌}
-use native.Mathlib.Omega.{arith}
+use Rattle.std.proofs.Common.{◌≡◌, ap, ◌∙◌, ℕ, ◌+◌, ◌*◌, ◌<◌, arith}
 use Rattle.automaton.specs.Board.{Board}
 use Rattle.arena.specs.Game.{board}
 use Rattle.halves.specs.Half.{challenged}

@@ -1,5 +1,5 @@
 -- `spoilers::source::sources` meets its contract: a state is taken from the word of the bit that a move to it leaves.
-use mathlib.Core.Bool.{true}
+use Rattle.std.proofs.Common.{true}
 use Rattle.simulation.proofs.Inward.{pended_lt}
 use Rattle.arena.specs.Game.{board}
 use Rattle.spoilers.proofs.Leads.{sources_made}
