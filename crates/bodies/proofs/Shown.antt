@@ -1,7 +1,7 @@
 -- The marked triples show one edge more.
 use Rattle.std.proofs.Common.{◌≡◌, refl, sym, ap, ◌∙◌, Bool, true, false, cond, ◌||◌, List, [], ◌∷◌, ℕ, ◌*◌, ◌/◌, ◌%◌, ◌^◌, ◌≤◌, ◌<◌, mod-lt, arith, eq-eqb, ne_eqb, lt-ltb, eqb-true, eqb, get_or, replicate, pow_pos, pow_mono}
 use borrow.Author.Tests.{eqb-false}
-use lib.ListN.{length-replicate}
+use Rattle.std.proofs.Math.ListN.{length-replicate}
 use Rattle.games.proofs.Lift.{cleared_at}
 use Rattle.automaton.specs.Limits.{most_states}
 use Rattle.simulation.specs.Rules.{bit}

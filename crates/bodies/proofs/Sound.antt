@@ -1,7 +1,7 @@
 -- What was read is sound: the sheet lists states below n alone, and the edges lead between such states.
 use Rattle.std.proofs.Common.{◌≡◌, refl, ◌∙◌, Bool, true, false, ◌&&◌, ◌||◌, List, [], ◌∷◌, ℕ, zero, suc, ◌≤◌, ◌<◌, arith, eqb-true, eqb, get_or, set, length-set, get_or-set_other}
-use mathlib.Core.Bool.{false≢true}
-use lib.ListN.{length-replicate}
+use Rattle.std.proofs.Math.Bool.{false≢true}
+use Rattle.std.proofs.Math.ListN.{length-replicate}
 use Rattle.games.proofs.Lift.{cleared_at}
 use Rattle.tokens.specs.Tokens.{token_from}
 use Rattle.labels.specs.Label.{holds}

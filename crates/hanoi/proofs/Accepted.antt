@@ -1,7 +1,7 @@
 -- When `read` accepts: a text of the grammar within the limits, and room for its marks and moves. What it then gives, and what a refused call leaves.
 use Rattle.std.proofs.Common.{◌≡◌, refl, sym, ap, ◌∙◌, ◌≢◌, ◌↔◌, List, [], ◌∷◌, ℕ, ◌≤◌, ◌<◌, arith, leb-false, length}
 use mathlib.Core.Logic.Iff
-use borrow.Author.Tests.{lt-leb}
+use Rattle.std.proofs.lemmas.Bool.{lt-leb}
 use Rattle.automaton.specs.declared.Refusal.{Refusal}
 use Rattle.automaton.specs.declared.Refusal.TheVariants.{Start, OutputLength, ProgramLimits, TooLong}
 use Rattle.automaton.specs.Answer.{Answer, Fault, first_fault}

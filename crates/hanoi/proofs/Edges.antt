@@ -1,6 +1,6 @@
 -- Edges lead along a triple exactly if one of them has its states and a label that holds of its letter.
 use Rattle.std.proofs.Common.{◌≡◌, refl, ap, subst, ◌∙◌, ◌↔◌, Bool, true, false, ◌&&◌, ◌||◌, List, [], ◌∷◌, ℕ, eqb-true, eq-eqb, eqb}
-use mathlib.Core.Bool.{false≢true, and-eq-true_iff, or-true}
+use Rattle.std.proofs.Math.Bool.{false≢true, and-eq-true_iff, or-true}
 use mathlib.Core.List.{Memᴰ}
 use Rattle.labels.specs.Label.{holds}
 use Rattle.bodies.specs.Body.{Edge, leads_by, leads}

@@ -1,6 +1,6 @@
 -- What `write` answers and leaves, by the room there is.
 use Rattle.std.proofs.Common.{◌≡◌, refl, sym, ap, ◌∙◌, Bool, true, ◌||◌, List, [], ◌∷◌, ◌++◌, ℕ, ◌-◌, ◌≤◌, ◌<◌, arith, lt-ltb, le-ltb, ltb, length, drop}
-use mathlib.Core.Bool.{or-true}
+use Rattle.std.proofs.Math.Bool.{or-true}
 use borrow.Rule.Slice.PartMut.{put_mid, Post-is}
 use Rattle.automaton.specs.declared.Automaton.{Automaton}
 use Rattle.automaton.specs.declared.Refusal.{Refusal}

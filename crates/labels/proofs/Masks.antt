@@ -1,6 +1,6 @@
 -- The bits of the masks: those of the parts of a label give those of the label.
 use Rattle.std.proofs.Common.{◌≡◌, refl, ap, ◌∙◌, Bool, true, false, ◌&&◌, ◌||◌, not as flip, ℕ, zero, suc, ◌/◌, ◌%◌, ◌^◌, ◌<◌, ◌≤◌, min, max, arith, eqb, bit_and, bit_or, bit_xor, below_more, eqb-true}
-use mathlib.Core.Bool.{and-eq-true_iff}
+use Rattle.std.proofs.Math.Bool.{and-eq-true_iff}
 use lib.Bits.{differ, and_shr, or_shr, xor_shr, and_step, or_step, xor_step}
 use Rattle.labels.specs.Label.{Label, always, never, not, holds}
 use Rattle.labels.specs.Letters.{flag, bit, Agrees}

@@ -1,6 +1,6 @@
 -- Sorts told apart: `is` says of two sorts whether they are the same.
 use Rattle.std.proofs.Common.{◌≡◌, refl, sym, ap, subst, ◌∙◌, Bool, true, false, cond, ℕ, eqb, true≢false, eqb-true, eq-eqb}
-use mathlib.Core.Bool.{and-eq-true_iff}
+use Rattle.std.proofs.Math.Bool.{and-eq-true_iff}
 use Rattle.tokens.specs.declared.Sort.{Sort}
 use Rattle.tokens.specs.declared.Sort.TheVariants as sort
 use Rattle.tokens.specs.Sorts.{index, value, is}
