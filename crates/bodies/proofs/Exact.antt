@@ -1,8 +1,5 @@
 -- Reading token by token ends well exactly for the bodies that the format writes, with their sheet and their edges.
-use mathlib.Core.Path.{◌≡◌}
-use mathlib.Core.List.{List, []}
-use Prim.Native.Nat.{ℕ}
-use native.Mathlib.Omega.{arith}
+use Rattle.std.proofs.Common.{◌≡◌, List, [], ℕ, arith}
 use Rattle.automaton.specs.declared.Refusal.{Refusal}
 use Rattle.tokens.specs.declared.Token.{Token}
 use Rattle.bodies.specs.declared.Due.TheVariants as due

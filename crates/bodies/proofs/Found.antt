@@ -1,8 +1,6 @@
 -- What is read to the end is a body as the format writes it: what stands from a place on, by what is due there.
-use Rattle.std.proofs.Common.{◌≡◌, refl, sym, subst, Bool, true, false, cond, ◌&&◌, List, ◌∷◌, ℕ, ◌<◌, eqb, ltb, get_or, set, Option, Some, None, arith}
-use mathlib.Core.Bool.{false≢true}
-use borrow.Author.Tests.{eqb-true, ltb-true}
-use lib.Seq.{set-set}
+use Rattle.std.proofs.Common.{◌≡◌, refl, sym, subst, Bool, true, false, cond, ◌&&◌, List, ◌∷◌, ℕ, ◌<◌, eqb, ltb, get_or, set, Option, Some, None, arith, eqb-true, ltb-true, set-set}
+use Rattle.std.proofs.Math.Bool.{false≢true}
 use Rattle.tokens.specs.declared.Sort.{Sort}
 use Rattle.tokens.specs.declared.Sort.TheVariants as sort
 use Rattle.tokens.specs.declared.Token.{Token}

@@ -1,6 +1,6 @@
 -- The invariant of `read`: what reading comes to from the token that is next, it comes to from the first.
 use Rattle.std.proofs.Common.{◌≡◌, sym, ap, subst, ◌∙◌, List, [], ◌∷◌, ℕ, ◌^◌, length, set, replicate, length-set, Some, None}
-use lib.ListN.{length-replicate}
+use Rattle.std.proofs.Math.ListN.{length-replicate}
 use Rattle.automaton.specs.declared.Refusal.{Refusal}
 use Rattle.automaton.specs.declared.Refusal.TheVariants.{Foreign}
 use Rattle.tokens.specs.declared.Token.{Token}

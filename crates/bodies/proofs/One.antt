@@ -1,6 +1,5 @@
 -- Reading comes to one outcome.
-use Rattle.std.proofs.Common.{◌≡◌, refl, sym, ap, subst, ◌∙◌, List, ◌∷◌, ℕ, set, Option, Some, None, arith}
-use mathlib.Core.Path.{ap₂}
+use Rattle.std.proofs.Common.{◌≡◌, refl, sym, ap, subst, ◌∙◌, List, ◌∷◌, ℕ, set, Option, Some, None, arith, ap₂}
 use Rattle.automaton.specs.declared.Refusal.{Refusal}
 use Rattle.automaton.specs.declared.Refusal.TheVariants.{Foreign}
 use Rattle.tokens.specs.declared.Sort.TheVariants as sort

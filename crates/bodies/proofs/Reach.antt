@@ -1,8 +1,5 @@
 -- The place of a refusal lies within the text.
-use mathlib.Core.List.{List}
-use Prim.Native.Nat.{ℕ, ◌≤◌}
-use native.Mathlib.Omega.{arith}
-use lib.ListN.{length}
+use Rattle.std.proofs.Common.{List, ℕ, ◌≤◌, arith, length}
 use Rattle.automaton.specs.Answer.{place_of}
 use Rattle.automaton.specs.declared.Refusal.{Refusal}
 use Rattle.tokens.specs.Tokens.{token_from}

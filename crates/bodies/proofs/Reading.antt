@@ -1,7 +1,5 @@
 -- A body as the format writes it is read token by token: what reading comes to behind a part of it, it comes to before it.
-use Rattle.std.proofs.Common.{◌≡◌, refl, sym, ap, subst, ◌∙◌, List, ℕ, set, Some}
-use borrow.Author.Tests.{lt-ltb}
-use lib.Seq.{set-set}
+use Rattle.std.proofs.Common.{◌≡◌, refl, sym, ap, subst, ◌∙◌, List, ℕ, set, Some, lt-ltb, set-set}
 use Rattle.tokens.specs.declared.Sort.{Sort}
 use Rattle.tokens.specs.declared.Sort.TheVariants as sort
 use Rattle.tokens.specs.declared.Token.{Token}

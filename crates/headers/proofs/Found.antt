@@ -1,6 +1,5 @@
 -- What is read is a header as the format writes it: by what is wanted, what stands from there on where reading ends well.
-use Rattle.std.proofs.Common.{◌≡◌, refl, sym, subst, Bool, true, false, cond, ℕ, zero, suc, ◌≤◌, eqb, leb, Option, Some, None, is_some}
-use borrow.Author.Tests.{eqb-true, leb-true}
+use Rattle.std.proofs.Common.{◌≡◌, refl, sym, subst, Bool, true, false, cond, ℕ, zero, suc, ◌≤◌, eqb, leb, Option, Some, None, is_some, eqb-true, leb-true}
 use Rattle.std.specs.Option.{unwrap_or}
 use Rattle.tokens.specs.declared.Sort.{Sort}
 use Rattle.tokens.specs.declared.Sort.TheVariants as sort

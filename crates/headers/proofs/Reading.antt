@@ -1,6 +1,5 @@
 -- A header as the format writes it is read token by token: what reading comes to behind an item, it comes to before it.
-use Rattle.std.proofs.Common.{◌≡◌, refl, false, ◌∙◌, ℕ, Some}
-use borrow.Author.Tests.{le-leb}
+use Rattle.std.proofs.Common.{◌≡◌, refl, false, ◌∙◌, ℕ, Some, le-leb}
 use Rattle.tokens.specs.declared.Sort.{Sort}
 use Rattle.tokens.specs.declared.Token.{Token}
 use Rattle.tokens.specs.Here.{Here}

@@ -1,8 +1,5 @@
 -- What is known while a label is read unit by unit, in continuation form: what the rest is makes what the whole is.
-use mathlib.Core.Path.{◌≡◌}
-use Prim.Native.Nat.{ℕ, ◌<◌, min, max}
-use native.Mathlib.Omega.{arith}
-use lib.Bits.{bit_and, bit_or}
+use Rattle.std.proofs.Common.{◌≡◌, ℕ, ◌<◌, min, max, arith, bit_and, bit_or}
 use Rattle.tokens.specs.declared.Token.{Token}
 use Rattle.tokens.specs.declared.Sort.TheVariants as sort
 use Rattle.tokens.specs.Here.{Here}

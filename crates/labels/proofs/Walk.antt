@@ -1,6 +1,5 @@
 -- The walk of a refusal goes along the labels of the grammar, both ways.
-use Rattle.std.proofs.Common.{◌≡◌, ◌≢◌, refl, sym, ap, subst, ◌∙◌, true, ℕ, suc, ◌+◌, ◌<◌, ◌≤◌, add-one, arith}
-use borrow.Author.Tests.{lt-ltb, le-ltb}
+use Rattle.std.proofs.Common.{◌≡◌, ◌≢◌, refl, sym, ap, subst, ◌∙◌, true, ℕ, suc, ◌+◌, ◌<◌, ◌≤◌, add-one, arith, lt-ltb, le-ltb}
 use Rattle.automaton.specs.declared.Refusal.{Refusal}
 use Rattle.automaton.specs.declared.Refusal.TheVariants.{Foreign}
 use Rattle.tokens.specs.declared.Sort.{Sort}

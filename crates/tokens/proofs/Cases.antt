@@ -1,5 +1,5 @@
 -- The worked tokens hold of the definitions, by computing them.
-use mathlib.Core.Path.{refl}
+use Rattle.std.proofs.Common.{refl}
 use Rattle.fields.specs.Numbers.{digits, number_of}
 use Rattle.tokens.specs.Cases.{AllHold, cases}
 use Rattle.tokens.specs.Tokens.{gap, unquoted, token_at, token_from}

@@ -1,7 +1,6 @@
 -- How far a quoted text goes: one byte more, or the end.
-use Rattle.std.proofs.Common.{◌≡◌, ℕ, ◌+◌, ◌<◌, List, length, drop, get_or, Some, None}
-use lib.Seq.{drop-length}
-use borrow.Author.Tests.{eq-eqb, ne_eqb}
+use Rattle.std.proofs.Common.{◌≡◌, ℕ, ◌+◌, ◌<◌, List, length, drop, get_or, Some, None, eq-eqb, ne_eqb}
+use Rattle.std.proofs.Math.Seq.{drop-length}
 use Rattle.tokens.specs.Tokens.{unquoted}
 use Rattle.tokens.proofs.Front.{front_two, front_second, front_last}
 

@@ -1,6 +1,6 @@
 -- The front of what follows a place: its first bytes, and the rest behind them.
-use Rattle.std.proofs.Common.{◌≡◌, List, [], ◌∷◌, ℕ, suc, ◌+◌, ◌<◌, length, drop, get_or, add-one, arith}
-use lib.Seq.{drop-cons, drop-length}
+use Rattle.std.proofs.Common.{◌≡◌, List, [], ◌∷◌, ℕ, suc, ◌+◌, ◌<◌, length, drop, get_or, add-one, arith, drop-cons}
+use Rattle.std.proofs.Math.Seq.{drop-length}
 
 module _ (s : List ℕ) (i : ℕ) where
   pub front : i < length s → drop i s ≡ get_or s i 0 ∷ drop (i + 1) s

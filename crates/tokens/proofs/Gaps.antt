@@ -1,6 +1,6 @@
 -- White space and comments unroll: each law is one way that the loop over a gap goes on or ends.
 use Rattle.std.proofs.Common.{◌≡◌, refl, true, false, List, ℕ, zero, suc, ◌+◌, ◌-◌, ◌≤◌, ◌<◌, ltb, length, drop, get_or, Some, None, add-one, arith}
-use lib.Seq.{drop-length}
+use Rattle.std.proofs.Math.Seq.{drop-length}
 use Rattle.fields.proofs.Tests.{by_test}
 use Rattle.tokens.specs.Tokens.{blank, opens, shuts, gap}
 use Rattle.tokens.proofs.Front.{front_two, front_second, front_last}

@@ -1,6 +1,5 @@
 -- Where tokens lie: at or behind the place asked for, within the text, and each that is one goes on.
-use Rattle.std.proofs.Common.{◌≡◌, sym, true, List, ℕ, ◌≤◌, ◌<◌, length, arith}
-use mathlib.Core.Bool.{true≢false}
+use Rattle.std.proofs.Common.{◌≡◌, sym, true, List, ℕ, ◌≤◌, ◌<◌, length, arith, true≢false}
 use Rattle.tokens.specs.declared.Sort.TheVariants as sort
 use Rattle.tokens.specs.Sorts.{stands}
 use Rattle.tokens.specs.Tokens.{token_from}

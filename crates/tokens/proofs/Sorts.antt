@@ -1,7 +1,6 @@
 -- Sorts told apart: `is` says of two sorts whether they are the same.
-use Rattle.std.proofs.Common.{◌≡◌, refl, sym, ap, subst, ◌∙◌, Bool, true, false, cond, ℕ, eqb}
-use mathlib.Core.Bool.{and-eq-true_iff, true≢false}
-use borrow.Author.Tests.{eqb-true, eq-eqb}
+use Rattle.std.proofs.Common.{◌≡◌, refl, sym, ap, subst, ◌∙◌, Bool, true, false, cond, ℕ, eqb, true≢false, eqb-true, eq-eqb}
+use Rattle.std.proofs.Math.Bool.{and-eq-true_iff}
 use Rattle.tokens.specs.declared.Sort.{Sort}
 use Rattle.tokens.specs.declared.Sort.TheVariants as sort
 use Rattle.tokens.specs.Sorts.{index, value, is}

@@ -1,9 +1,7 @@
 -- What a token can be: nothing at the end, wrong, a number, or another sort that goes on within the text. What all these have, each token has.
-use Rattle.std.proofs.Common.{◌≡◌, refl, sym, ◌∙◌, Bool, true, false, cond, ◌&&◌, List, [], ◌∷◌, ℕ, ◌+◌, ◌-◌, ◌*◌, ◌≤◌, ◌<◌, eqb, leb, ltb, min, length, take, drop, get_or, length-take, length-drop, ap, bytes_eq, Option, Some, None, arith}
+use Rattle.std.proofs.Common.{◌≡◌, refl, sym, ◌∙◌, Bool, true, false, cond, ◌&&◌, List, [], ◌∷◌, ℕ, ◌+◌, ◌-◌, ◌*◌, ◌≤◌, ◌<◌, eqb, leb, ltb, min, length, take, drop, get_or, length-take, length-drop, ap, bytes_eq, Option, Some, None, arith, true≢false, ltb-false, leb-true, leb-false, eqb-true}
 use Rattle.std.proofs.lemmas.Slice.Eq.{bytes_eq-Decides}
-use mathlib.Core.Bool.{true≢false}
-use borrow.Author.Tests.{ltb-false, leb-true, leb-false, eqb-true}
-use lib.ListN.{get_or-eq_default}
+use Rattle.std.proofs.Math.ListN.{get_or-eq_default}
 use Rattle.fields.specs.Bytes.{bytes_of}
 use Rattle.fields.specs.Numbers.{digits, largest, number_of}
 use Rattle.fields.proofs.Tests.{by_test}

@@ -1,7 +1,6 @@
 -- `edge` meets its contract: a label and a target below n make an edge, whose triples are marked.
-use Rattle.std.proofs.Common.{◌≡◌, sym, ap, subst, ◌∙◌, ℕ, ◌<◌, rules}
+use Rattle.std.proofs.Common.{◌≡◌, sym, ap, subst, ◌∙◌, ℕ, ◌<◌, rules, pow_mono}
 use Rattle.std.proofs.lemmas.Result.{err_from_is_err_and}
-use lib.Pow.{pow_mono}
 use Rattle.tokens.specs.declared.Sort.TheVariants as sort
 use Rattle.tokens.specs.declared.Token.{Token}
 use Rattle.tokens.specs.Tokens.{token_from}

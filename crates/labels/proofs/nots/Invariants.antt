@@ -1,6 +1,5 @@
 -- `nots` meets its contract: the row grows by one `!` a turn, up to the first other token.
-use Prim.Native.Nat.{◌≤◌, ◌-◌}
-use lib.ListN.{length}
+use Rattle.std.proofs.Common.{◌≤◌, ◌-◌, length}
 use Rattle.tokens.specs.Tokens.{token_from}
 use Rattle.labels.specs.Parts.{Nots}
 use Rattle.labels.proofs.nots.Given as goal

@@ -1,7 +1,7 @@
 -- `tokens::token_at` meets its contract: the first byte tells what the token is, and each part that is called gives it.
-use Rattle.std.proofs.Common.{◌≡◌, sym, ap, ◌∙◌, Bool, List, ℕ, ◌+◌, ◌-◌, length, take, drop, length-take, length-drop, arith, rules}
+use Rattle.std.proofs.Common.{◌≡◌, sym, ap, ◌∙◌, Bool, List, ℕ, ◌+◌, ◌-◌, length, take, drop, length-take, length-drop, arith, rules, eq-eqb, ne_eqb, le-leb}
 use Rattle.std.specs.List.{prefix_len}
-use borrow.Author.Tests.{eq-eqb, ne_eqb, le-leb, lt-leb}
+use Rattle.std.proofs.lemmas.Bool.{lt-leb}
 use Rattle.tokens.specs.declared.Sort.{Sort}
 use Rattle.tokens.specs.Tokens.{digit, past, sorted, token_at, wordly}
 use Rattle.tokens.proofs.Bounds.{past_bound, word_bound}
