@@ -1,5 +1,5 @@
 -- Within the limits of the programs: the numbers are small, and no call that the report is made of is refused.
-use Rattle.std.proofs.Common.{Err, Ok, Result, ◌≡◌, refl, sym, ap, ◌∙◌, subst, List, [], ◌∷◌, ℕ, ◌-◌, ◌*◌, ◌≤◌, mul-le-mul, arith, length}
+use Rattle.std.proofs.Common.{Err, Ok, Result, ◌≡◌, refl, sym, ap, ◌∙◌, subst, List, [], ◌∷◌, ℕ, ◌*◌, ◌≤◌, mul-le-mul, length}
 use Rattle.games.specs.Lift.{AtRest}
 use Rattle.games.specs.Settle.{settle}
 use Rattle.games.proofs.Settle.{settle-rest}

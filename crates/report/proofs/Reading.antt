@@ -1,7 +1,6 @@
 -- What `read` tells the report, with room for every text of the programs: why the text is refused, or that it is legible and what it gives.
-use Rattle.std.proofs.Common.{Option, Ok, subst, ◌*◌, ◌≡◌, refl, sym, ap, ◌∙◌, List, ℕ, ◌-◌, ◌/◌, ◌≤◌, arith, length, take, drop, replicate, length-append, length-drop, take_at}
+use Rattle.std.proofs.Common.{Option, Ok, subst, ◌*◌, ◌≡◌, refl, sym, ap, ◌∙◌, List, ℕ, ◌/◌, ◌≤◌, arith, length, take, drop, replicate, length-append, length-drop, take_at}
 use lib.ListN.{length-replicate}
-use Rattle.automaton.specs.declared.Automaton.{Automaton}
 use Rattle.automaton.specs.declared.Refusal.{Refusal}
 use Rattle.automaton.specs.Answer.{Fault, none, fault, refused, first_fault}
 use Rattle.automaton.specs.Effect.{Effect}

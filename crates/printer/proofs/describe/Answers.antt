@@ -1,5 +1,5 @@
 -- `describe` meets its contract: `positions` answers P, which is at most 4,608, so there is room for the table.
-use Rattle.std.proofs.Common.{List, length-take-le, replicate, ◌≡◌, ◌∙◌, ◌≤◌, Ok, Result, ℕ, ap, arith, sym}
+use Rattle.std.proofs.Common.{List, length-take-le, replicate, ◌≡◌, ◌∙◌, Ok, Result, ℕ, ap, arith, sym}
 use Rattle.automaton.specs.Answer.{answered, valued, value}
 use Rattle.automaton.specs.declared.Automaton.{Automaton}
 use Rattle.automaton.specs.declared.Refusal.{Refusal}

@@ -1,5 +1,5 @@
 -- `describe_on` meets its contract: `settle` accepts the table, and the three parts of the text are laid one behind another.
-use Rattle.std.proofs.Common.{◌≡◌, ◌∙◌, IsOk, List, Ok, Result, [], ◌∷◌, ◌++◌, ℕ, ap, append-nil, length, refl, rules, sym}
+use Rattle.std.proofs.Common.{◌≡◌, ◌∙◌, List, Ok, Result, [], ◌∷◌, ◌++◌, ℕ, ap, append-nil, length, refl, rules, sym}
 use Rattle.games.specs.Settle.{settle}
 use Rattle.automaton.specs.declared.Refusal.{Refusal}
 use Rattle.automaton.specs.Answer.{answered, valued}

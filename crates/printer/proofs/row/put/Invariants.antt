@@ -1,5 +1,5 @@
 -- `row::put` meets its contract: the fields left and the newline, put from here on, end and lie where the whole line does.
-use Rattle.std.proofs.Common.{List, [], ◌∷◌, ◌++◌, ℕ, ◌-◌, length, drop}
+use Rattle.std.proofs.Common.{List, [], ◌∷◌, ◌++◌, ℕ, drop}
 use Rattle.fields.specs.Bytes.{newline}
 use Rattle.printer.specs.Printed.{tabbed}
 use Rattle.printer.proofs.Left.{Left}
