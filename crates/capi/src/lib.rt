@@ -199,7 +199,7 @@ pub fn lucorphane_quotient(
     classmoves: &mut [u8],
 ) -> Answer
     ensures result_value { given result ≡ (quotienting (job_by n k start accept.now moves.now mode) (buffers table.old classes.old classmarks.old classmoves.old)).answer }
-    ensures classmoves_after { buffers table.new classes.new classmarks.new classmoves.new ≡ (quotienting (job_by n k start accept.now moves.now mode) (buffers table.old classes.old classmarks.old classmoves.old)).left }
+    ensures buffers_after { buffers table.new classes.new classmarks.new classmoves.new ≡ (quotienting (job_by n k start accept.now moves.now mode) (buffers table.old classes.old classmarks.old classmoves.old)).left }
 {
     let job = job(n, k, start, accept, moves, mode);
     quotient::quotient(&job, table, classes, classmarks, classmoves).into()

@@ -34,7 +34,10 @@ pub fn quotient(
 {
     let arena = admit(job, table.len())?;
     let states = arena.states;
-    if classes.len() != states || classmarks.len() != states || classmoves.len() != job.moves.len() {
+    if classes.len() != states
+        || classmarks.len() != states
+        || classmoves.len() != job.moves.len()
+    {
         return Err(Refusal::OutputLength);
     }
     // it refuses nothing that is not refused above

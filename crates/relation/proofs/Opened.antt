@@ -1,9 +1,7 @@
 -- What the game that a call was opened with is: that of its job, and no refusal from 1 to 9 applies.
 use Rattle.std.proofs.Common.{◌≡◌, sym, ap, ◌∙◌, List, ℕ, length, Ok}
 use Rattle.games.specs.Game as theory
-use Rattle.automaton.specs.declared.Mode.{Mode}
 use Rattle.automaton.specs.Answer.{none}
-use Rattle.automaton.specs.Board.{Board}
 use Rattle.arena.specs.declared.Arena.{Arena}
 use Rattle.arena.specs.declared.game.Game.{Game}
 use Rattle.arena.specs.Arena.{board_in}

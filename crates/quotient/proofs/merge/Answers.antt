@@ -1,20 +1,18 @@
 -- `quotient::merge` meets its contract: each call reads what the calls before it wrote, which is what the definitions say.
-use Rattle.std.proofs.Common.{◌≡◌, refl, sym, ap, ◌∙◌, subst, List, ◌++◌, map, ℕ, ◌*◌, ◌-◌, ◌/◌, ◌≤◌, length, get_or, drop, arith}
-use Rattle.std.proofs.Math.ListN.{length-replicate}
+use Rattle.std.proofs.Common.{◌≡◌, sym, ap, ◌∙◌, subst, List, ◌++◌, map, ℕ, ◌*◌, ◌/◌, length, get_or, drop, arith}
 use Rattle.games.specs.Settle.{ascending}
 use Rattle.automaton.specs.declared.Mode.{Mode}
-use Rattle.automaton.specs.Board.{Board, Formed}
-use Rattle.simulation.specs.Quotient.{padded, class_of, class_count, class_bytes, class_marks, mark_bytes, class_moves, move_bytes}
+use Rattle.simulation.specs.Quotient.{padded, class_count, class_bytes, mark_bytes, class_moves}
 use Rattle.laws.proofs.Fewer.{moves_fewer}
 use Rattle.laws.proofs.Quotient.{classes-most}
-use Rattle.triples.specs.Triples.{most_triples, triples_in}
+use Rattle.triples.specs.Triples.{triples_in}
 use Rattle.arena.specs.declared.game.Game.{Game}
 use Rattle.arena.specs.Game.{board, Playable}
 use Rattle.arena.specs.Seats.{bare}
 use Rattle.arena.proofs.Seats.{seated}
 use Rattle.classing.specs.Writing.{Imaged, mark_in, Seen}
 use Rattle.classing.proofs.Bare.{bare-bytes, bare-count}
-use Rattle.classing.proofs.Bytes.{bytes_length, marks_are, imaged, triples_are, class_at}
+use Rattle.classing.proofs.Bytes.{marks_are, imaged, triples_are, class_at}
 use Rattle.classing.proofs.Lists.{padded_tail}
 use Rattle.quotient.specs.Calls.{buffers, counted}
 use Rattle.quotient.proofs.merge.Goals as goal
@@ -75,8 +73,8 @@ returns-clause-result_value c =
     let count = n.ensures.value ∙ bare-count g.arena g.marks.now g.moves.now t in
     let bytes = c.write_moves-bytes.ensures.value ∙ ap length moved in
     let start = c.wide.ensures
-        ∙ ap (λ (l : List ℕ). get_or l c.args.start 0) (classes-are g t c.requires.playable n.new.classes n.ensures.classes_after)
-        ∙ class_at (board g) g.arena.mode t c.args.start c.requires.is_state in
+    ∙ ap (λ (l : List ℕ). get_or l c.args.start 0) (classes-are g t c.requires.playable n.new.classes n.ensures.classes_after)
+    ∙ class_at (board g) g.arena.mode t c.args.start c.requires.is_state in
     λ i. counted (count i) (bytes i / 3) (start i)
 
 pub returns-clause-buffers_after : goal.returns-clause-buffers_after
@@ -91,5 +89,5 @@ returns-clause-buffers_after c =
     let out-is = w.ensures.out_after ∙ ap (λ (l : List ℕ). l ++ drop w.result c.args.classmoves.now) moved in
     let length-is = w.auto.out ∙ c.requires.sized.2 in
     let moves = padded_tail w.result w.new.out (class_moves (board g) g.arena.mode t) (drop w.result c.args.classmoves.now) c.leave_unused.new.part out-is (sym (w.ensures.value ∙ ap length moved)) c.leave_unused.ensures
-        ∙ ap (λ (n : ℕ). padded n (class_moves (board g) g.arena.mode t)) length-is in
+    ∙ ap (λ (n : ℕ). padded n (class_moves (board g) g.arena.mode t)) length-is in
     λ i. buffers t (classes i) (marks i) (moves i)

@@ -1,5 +1,5 @@
 -- `quotient::quotient` meets its contract: refusals 1 to 8, 17, 9 and 16 are decided before the table is settled and the quotient by it is written.
-use Rattle.std.proofs.Common.{◌≡◌, sym, ap, ◌∙◌, subst, List, ℕ, ◌<◌, length, arith}
+use Rattle.std.proofs.Common.{◌≡◌, sym, ap, ◌∙◌, subst, List, ℕ, length, arith}
 use Rattle.std.proofs.lemmas.Result.{err_from_is_err_and}
 use Rattle.automaton.specs.Answer.{refused}
 use Rattle.automaton.specs.declared.Refusal.TheVariants.{OutputLength}
@@ -69,6 +69,6 @@ returns c =
     let table_is : t ≡ (settled j.board (mode_of j.mode)).table = c.settle.ensures.table_after ∙ ap (λ (e : Effect (List ℕ)). e.left) (settle-does j lent.table fitting) in
     let moves = c.if-classmoves-job.false ∙ ap (λ (k : Job). length k.board.moves) c.job.view_is in
     let does = ap (λ (k : Job). merging (board_in g k.board.marks k.board.moves) g.mode k.start t) c.job.view_is
-        ∙ sym (merge-does j lent g o c.if-classes-states.false c.if-classmarks-states.false moves t table_is) in
+    ∙ sym (merge-does j lent g o c.if-classes-states.false c.if-classmarks-states.false moves t table_is) in
     let ends = both does in
     record { result_value = c.merge.ensures.result_value ∙ ends.0; buffers_after = c.merge.ensures.buffers_after ∙ ends.1 }

@@ -1,5 +1,5 @@
 -- `relation::relation` meets its contract: refusals 1 to 10, 12 and 16 are decided before a byte is written.
-use Rattle.std.proofs.Common.{◌≡◌, sym, ap, ◌∙◌, ℕ, ◌*◌, arith}
+use Rattle.std.proofs.Common.{sym, ap, ◌∙◌, ◌*◌, arith}
 use Rattle.std.proofs.lemmas.Result.{err_from_is_err_and}
 use Rattle.automaton.specs.Answer.{valued}
 use Rattle.automaton.specs.Board.{Board}

@@ -1,5 +1,5 @@
 -- `relation::reply_at` meets its contract: whose turn it is, whether the entry is T, and what the scan found decide in this order.
-use Rattle.std.proofs.Common.{◌≡◌, refl, sym, ap, ◌∙◌, Bool, Option, None, Some, List, [], ◌∷◌, ℕ, ◌-◌, ◌≤◌, ◌<◌, le-leb, arith}
+use Rattle.std.proofs.Common.{◌≡◌, refl, sym, ap, ◌∙◌, Bool, Option, None, List, [], ◌∷◌, ℕ, ◌-◌, ◌≤◌, ◌<◌, le-leb, arith}
 use Rattle.std.proofs.lemmas.Bool.{lt-leb}
 use Rattle.games.specs.Game.{at}
 use Rattle.automaton.specs.declared.Mode.{Mode}
@@ -8,7 +8,7 @@ use Rattle.automaton.specs.Answer.{Answer, valued, refused, fails, first_fault, 
 use Rattle.automaton.specs.Board.{Board}
 use Rattle.simulation.specs.Answers.{entry_after, blue_moves, blue_reply, move_fault, reply_on}
 use Rattle.simulation.specs.Moves.{targets}
-use Rattle.simulation.specs.Position.{Position, spoiler, duplicator, spoiler_at, duplicator_at, position, pairs, Fits}
+use Rattle.simulation.specs.Position.{Position, spoiler, duplicator, duplicator_at, position, Fits}
 use Rattle.simulation.specs.Rules.{ceiling}
 use Rattle.simulation.proofs.Position.{spoilers_turn, duplicators_turn, position_fits}
 use Rattle.arena.specs.declared.game.Game.{Game}
@@ -47,7 +47,7 @@ module _ (g : Game) (t : List ℕ) (v : ℕ) (R : Playable g t) where
   held h l =
       sym (ap replied (duplicators h)
       ∙ ap (λ (d : Bool). unless (first_fault (fails d LostPosition ∷ move_fault (blue_moves (board g) asked) ∷ [])) (valued (blue_reply (board g) g.arena.mode t asked)))
-        (lt-leb (ceiling (board g) g.arena.mode) (at t v) (omega (arith, R.topped)))
+      (lt-leb (ceiling (board g) g.arena.mode) (at t v) (omega (arith, R.topped)))
       ∙ best-is (board g) g.arena.mode t asked)
 
 pub returns-then-position-g : goal.returns-then-position-g
