@@ -14,10 +14,12 @@ ghost use Rattle.arena.specs.Refusals.{sizing, topping};
 
 mod game; // game.rt: an arena with the lent bytes
 mod job; // job.rt: what a call is about
+mod seating; // seating.rt: where pairs of states have their entries in a table
 
 use automaton::{Automaton, Mode, Refusal};
 pub use game::Game;
 pub use job::Job;
+pub use seating::Seating;
 
 // What the work at every position needs: the automaton's numbers, the number of Spoiler's positions, and T.
 #[derive(Clone, Copy)]

@@ -1,8 +1,5 @@
 -- Reading token by token ends well exactly for the bodies that the format writes, with their sheet and their edges.
-use mathlib.Core.Path.{◌≡◌, ◌∙◌}
-use mathlib.Core.List.{List, []}
-use Prim.Native.Nat.{ℕ}
-use native.Mathlib.Omega.{arith}
+use Rattle.std.proofs.Common.{◌≡◌, List, [], ℕ, arith}
 use Rattle.automaton.specs.declared.Refusal.{Refusal}
 use Rattle.tokens.specs.declared.Token.{Token}
 use Rattle.bodies.specs.declared.Due.TheVariants as due
@@ -13,8 +10,8 @@ use Rattle.bodies.proofs.One.{walk_one}
 use Rattle.bodies.proofs.Reading.{block-begins, blocks_read, to}
 
 pub body-read : {T : ℕ → Token} {n p i : ℕ} {sheet : List ℕ} {es : List Edge} → IsBody T n p i sheet es → Walk T n p due.Block blank [] i (held sheet es)
-body-read {T = T} {n = n} {p = p} B =
-    blocks_read T n p B.blocks (λ d b. to T n p due.Nothing B.end (b _ (T B.after_blocks) (omega (arith, B.end.0)) ∙ simp B.end.0) (over (simp B.nothing))) due.Block (block-begins n)
+body-read {T = T} {n = n} {p = p} {sheet = sheet} B =
+    blocks_read T n p B.blocks (λ d b. to T n p due.Nothing B.end (b sheet).1 (over (simp B.nothing))) due.Block (block-begins n)
 
 pub read-body : {T : ℕ → Token} {n p i : ℕ} {sheet : List ℕ} {es : List Edge} → Walk T n p due.Block blank [] i (held sheet es) → IsBody T n p i sheet es
 read-body {T = T} {n = n} {p = p} {sheet = sheet} {es = es} w =

@@ -1,8 +1,6 @@
 -- The invariant of `read`: what reading comes to from the token that is next, it comes to from the first.
-use mathlib.Core.Path.{◌≡◌, sym, ap, subst, ◌∙◌}
-use mathlib.Core.List.{List, [], ◌∷◌}
-use Prim.Native.Nat.{ℕ, ◌^◌}
-use lib.ListN.{length, get_or, set, replicate, length-set, length-replicate}
+use Rattle.std.proofs.Common.{◌≡◌, sym, ap, subst, ◌∙◌, List, [], ◌∷◌, ℕ, ◌^◌, length, set, replicate, length-set, Some, None}
+use Rattle.std.proofs.Math.ListN.{length-replicate}
 use Rattle.automaton.specs.declared.Refusal.{Refusal}
 use Rattle.automaton.specs.declared.Refusal.TheVariants.{Foreign}
 use Rattle.tokens.specs.declared.Token.{Token}
@@ -44,10 +42,10 @@ module _ {text : List ℕ} {n p i : ℕ} {d : Due} {sheet seen : List ℕ} {at :
 
   -- what the token at this place leads to
   abbrev To : Next → Type 0
-  To m = step n d (get_or sheet (T at).value 0) (T at) ≡ m
+  To m = step n d sheet (T at).sort ≡ Some m
 
   pub going_knows : (m : Next) → To m → KnowsNext n m
-  going_knows m e = leads-known text at n d (get_or sheet (T at).value 0) m g.knows e
+  going_knows m e = leads-known text at n d sheet m g.knows e
 
   module _ (j : ℕ) (behind : (T at).next ≡ j) where
     pub going_on : (c : Due) → To (next.To c) → Going text n p i c sheet seen j
@@ -68,5 +66,5 @@ module _ {text : List ℕ} {n p i : ℕ} {d : Due} {sheet seen : List ℕ} {at :
   pub going_over : To next.Done → Gathered T n p i sheet seen
   going_over e = record { edges = g.edges; walked = g.onward (held sheet g.edges) (over e); shown = g.shown }
 
-  pub going_stuck : (a : ℕ) → (T at).at ≡ a → To next.Nowhere → Walk T n p Block blank [] i (refused (Foreign a))
+  pub going_stuck : (a : ℕ) → (T at).at ≡ a → step n d sheet (T at).sort ≡ None → Walk T n p Block blank [] i (refused (Foreign a))
   going_stuck a e f = g.onward (refused (Foreign a)) (stuck f e)

@@ -1,8 +1,5 @@
 -- The place of a refusal lies within the text.
-use mathlib.Core.List.{List}
-use Prim.Native.Nat.{ℕ, ◌≤◌}
-use native.Mathlib.Omega.{arith}
-use lib.ListN.{length}
+use Rattle.std.proofs.Common.{List, ℕ, ◌≤◌, arith, length}
 use Rattle.automaton.specs.Answer.{place_of}
 use Rattle.automaton.specs.declared.Refusal.{Refusal}
 use Rattle.tokens.specs.Tokens.{token_from}
@@ -22,7 +19,7 @@ module _ (s : List ℕ) {n p : ℕ} where
   astray-within : {i : ℕ} {r : Refusal} → Astray (token_from s) n p i r → i ≤ length s → place_of r ≤ length s
   astray-within (in_label f) l = fails-within s f l
   astray-within (no_number {g = g} x d e) l = let w = from-within s g (labelled-on s x l).1 in omega arith
-  astray-within (no_state {g = g} x d e) l = let w = from-within s g (labelled-on s x l).1 in omega arith
+  astray-within (no_state {g = g} x d c e) l = let w = from-within s g (labelled-on s x l).1 in omega arith
 
   walk_within : {d : Due} {t : List ℕ} {es : List Edge} {i : ℕ} {o : Outcome} → Walk (token_from s) n p d t es i o → i ≤ length s → Within s o
   walk_within {d = d} {i = i} (goes e b w) l = let on = leads-on s i n d _ _ l e tt in walk_within w (omega arith)

@@ -1,13 +1,7 @@
 -- What was read is sound: the sheet lists states below n alone, and the edges lead between such states.
-use mathlib.Core.Path.{◌≡◌, refl, ◌∙◌}
-use mathlib.Core.Bool.{Bool, true, false, ◌&&◌, ◌||◌, false≢true}
-use mathlib.Core.List.{List, [], ◌∷◌}
-use Prim.Native.Nat.{ℕ, zero, suc, ◌≤◌, ◌<◌}
-use native.Mathlib.Omega.{arith}
-use borrow.Author.Tests.{eqb-true}
-use lib.Dec.{eqb}
-use lib.ListN.{get_or, set, length-set, length-replicate}
-use lib.Seq.{get_or-set_other}
+use Rattle.std.proofs.Common.{◌≡◌, refl, ◌∙◌, Bool, true, false, ◌&&◌, ◌||◌, List, [], ◌∷◌, ℕ, zero, suc, ◌≤◌, ◌<◌, arith, eqb-true, eqb, get_or, set, length-set, get_or-set_other}
+use Rattle.std.proofs.Math.Bool.{false≢true}
+use Rattle.std.proofs.Math.ListN.{length-replicate}
 use Rattle.games.proofs.Lift.{cleared_at}
 use Rattle.tokens.specs.Tokens.{token_from}
 use Rattle.labels.specs.Label.{holds}

@@ -2,7 +2,7 @@
 use Rattle.std.specs.Prelude.{◌≡◌, Bool, false, ◌&&◌, ◌||◌, List, [], ◌∷◌, ℕ, ◌<◌, eqb, get_or, replicate, set}
 use Rattle.tokens.specs.declared.Token.{Token}
 use Rattle.tokens.specs.Here.{Here, Number}
-use Rattle.tokens.specs.Sorts as sort
+use Rattle.tokens.specs.declared.Sort.TheVariants as sort
 use Rattle.labels.specs.Label.{Label, holds, Labelled}
 
 -- ---- what a body says
@@ -41,18 +41,18 @@ module _ (T : ℕ → Token) where
   -- the name of a state may stand, and is skipped
   pub data Name : (i j : ℕ) → Type 0 where
     no_name : {i : ℕ} → Name i i
-    name : {i j : ℕ} → Here T i sort.quoted j → Name i j
+    name : {i j : ℕ} → Here T i sort.Quoted j → Name i j
 
   -- "marks on states only, `{0}` or `{}`": from i to j, with what the sheet then says
   pub data Marks : (i entry j : ℕ) → Type 0 where
     no_marks : {i : ℕ} → Marks i listed i
-    empty : {i h j : ℕ} → Here T i sort.marks h → Here T h sort.marks_end j → Marks i listed j
-    marked : {i h g j : ℕ} → Here T i sort.marks h → Number T h 0 g → Here T g sort.marks_end j → Marks i accepting j
+    empty : {i h j : ℕ} → Here T i sort.Marks h → Here T h sort.MarksEnd j → Marks i listed j
+    marked : {i h g j : ℕ} → Here T i sort.Marks h → Number T h 0 g → Here T g sort.MarksEnd j → Marks i accepting j
 
   module _ (n p : ℕ) where
     -- `[`, a label, `]` and a target below n: an edge of the state q from i to j
     pub data IsEdge (q i : ℕ) : Edge → (j : ℕ) → Type 0 where
-      edge : {h g r j : ℕ} {l : Label} → Here T i sort.label h → Labelled T p h l g → Number T g r j → r < n
+      edge : {h g r j : ℕ} {l : Label} → Here T i sort.Label h → Labelled T p h l g → Number T g r j → r < n
           → IsEdge q i (record { from = q; label = l; to = r }) j
 
     -- edges of q from i to j, which make the list after of those before
@@ -64,7 +64,7 @@ module _ (T : ℕ → Token) where
     pub data Blocks : (sheet : List ℕ) → (before : List Edge) → (i : ℕ) → (sheet' : List ℕ) → (after : List Edge) → (j : ℕ) → Type 0 where
       no_block : {s : List ℕ} {es : List Edge} {i : ℕ} → Blocks s es i s es i
       block : {s t : List ℕ} {es fs gs : List Edge} {i h g f e d j q m : ℕ}
-          → Here T i sort.state h → Number T h q g → q < n → get_or s q 0 ≡ unlisted
+          → Here T i sort.State h → Number T h q g → q < n → get_or s q 0 ≡ unlisted
           → Name g f → Marks f m e → Edges q es e fs d
           → Blocks (set s q m) fs d t gs j → Blocks s es i t gs j
 
@@ -73,5 +73,5 @@ module _ (T : ℕ → Token) where
       pub after_blocks : ℕ
       pub after-end : ℕ
       pub blocks : Blocks blank [] i sheet es after_blocks
-      pub end : Here T after_blocks sort.end after-end
-      pub nothing : (T after-end).sort ≡ sort.nothing
+      pub end : Here T after_blocks sort.End after-end
+      pub nothing : (T after-end).sort ≡ sort.Nothing

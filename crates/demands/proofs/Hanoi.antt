@@ -1,11 +1,6 @@
 -- Hanoi files, which "other tools" write: what is proved of `hanoi::read` and of the second relation program, each theorem under the words it renders.
 -- Their promises are relations: `Reads` and `Reports` hold of what a call is given, answers and leaves. The code is proved to meet them for every input.
-use mathlib.Core.Path.{◌≡◌, sym, ap, ◌∙◌, subst}
-use mathlib.Core.Logic.{◌≢◌, ◌↔◌}
-use mathlib.Core.Bool.{true}
-use mathlib.Core.List.{List}
-use Prim.Native.Nat.{ℕ, ◌≤◌, ◌<◌}
-use lib.ListN.{length, get_or}
+use Rattle.std.proofs.Common.{◌≡◌, sym, ap, ◌∙◌, subst, ◌≢◌, ◌↔◌, true, List, ℕ, ◌≤◌, ◌<◌, length, get_or}
 use Rattle.automaton.specs.declared.Mode.TheVariants.{Delayed}
 use Rattle.automaton.specs.declared.Refusal.{Refusal}
 use Rattle.automaton.specs.Answer.{Answer, refused}

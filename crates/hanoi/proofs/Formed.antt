@@ -1,14 +1,7 @@
 -- The automaton of a file: it is well formed, its marks are those of the sheet, and its moves are exactly those that an edge leads along, strictly ascending.
-use mathlib.Core.Path.{◌≡◌, refl, sym, ap, subst, ◌∙◌}
+use Rattle.std.proofs.Common.{◌≡◌, refl, sym, ap, subst, ◌∙◌, ◌↔◌, Bool, true, ℕ, ◌+◌, ◌*◌, ◌/◌, ◌%◌, ◌≤◌, ◌<◌, zero-add, mul-le-mul, arith, eqb-true, eq-eqb, eqb, length, get_or}
 use mathlib.Core.Logic.Iff
-use mathlib.Core.Logic.{◌↔◌}
-use mathlib.Core.Bool.{Bool, true}
-use Prim.Native.Nat.{ℕ, ◌+◌, ◌*◌, ◌/◌, ◌%◌, ◌≤◌, ◌<◌}
-use native.Mathlib.Nat.{zero-add, mul-le-mul, one-le-pow, pow-le-pow_right}
-use native.Mathlib.Omega.{arith}
-use borrow.Author.Tests.{eqb-true, eq-eqb}
-use lib.Dec.{eqb}
-use lib.ListN.{length, get_or}
+use Rattle.std.proofs.Math.Nat.{one-le-pow, pow-le-pow_right}
 use Rattle.games.proofs.Count.{count_most}
 use Rattle.automaton.specs.Board.{Formed, from, letter, to}
 use Rattle.automaton.specs.Limits.{most_states, most_letters}

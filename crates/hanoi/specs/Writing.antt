@@ -11,7 +11,6 @@ use Rattle.triples.specs.Triples.{triples_in}
 use Rattle.bodies.specs.Body.{accepting}
 use Rattle.text.specs.Calls.{Lent, before}
 use Rattle.hanoi.specs.declared.Limits.{Limits}
-use Rattle.hanoi.specs.declared.Reading.TheVariants.{Held}
 use Rattle.hanoi.specs.Answers.{of_reading}
 use Rattle.hanoi.specs.Calls.{faults_of}
 
@@ -29,7 +28,7 @@ moves_of a seen = triples_in a.states a.letters seen (a.states * a.letters * a.s
 module _ (a : Automaton) (marks moves : List ℕ) (x : Lent) where
   -- marks and moves before the rest of the buffers
   abbrev pub done : Effect Lent
-  done = record { answer = of_reading (Held a (length moves / 3)); left = record { marks = before marks x.marks; moves = before moves x.moves } }
+  done = record { answer = of_reading (record { automaton = a; moves = length moves / 3 }); left = record { marks = before marks x.marks; moves = before moves x.moves } }
 
   -- is there too little room?
   abbrev pub short : Fault

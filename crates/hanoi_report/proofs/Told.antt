@@ -1,9 +1,5 @@
 -- What a report comes to: one list of bytes for each file, no longer than a buffer must be.
-use mathlib.Core.Path.{◌≡◌, refl, sym, ap, ◌∙◌, subst}
-use mathlib.Core.List.{List}
-use Prim.Native.Nat.{ℕ, ◌≤◌}
-use native.Mathlib.Omega.{arith}
-use lib.ListN.{length}
+use Rattle.std.proofs.Common.{◌≡◌, refl, sym, ap, ◌∙◌, subst, List, ℕ, ◌≤◌, arith, length}
 use Rattle.automaton.specs.declared.Refusal.TheVariants.{OutputLength, TooLong}
 use Rattle.automaton.specs.Answer.{Answer, Fault, none, fault, first_fault, value, valued}
 use Rattle.automaton.proofs.One.{refused-not}

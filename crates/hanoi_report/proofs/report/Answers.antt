@@ -1,9 +1,6 @@
 -- `report` meets its contract: `read` refuses the file or gives a legible one, whose relation has room.
-use mathlib.Core.Path.{◌≡◌, refl, sym, ap, subst, ◌∙◌}
-use mathlib.Core.List.{List}
-use Prim.Native.Nat.{ℕ, ◌-◌, ◌*◌, ◌≤◌}
-use native.Mathlib.Omega.{arith}
-use lib.ListN.{length, take, drop, length-replicate}
+use Rattle.std.proofs.Common.{◌≡◌, refl, sym, ap, subst, ◌∙◌, List, ℕ, ◌-◌, ◌*◌, ◌≤◌, arith, length, take, drop}
+use lib.ListN.{length-replicate}
 use Rattle.automaton.specs.declared.Automaton.{Automaton}
 use Rattle.automaton.specs.Answer.{Answer}
 use Rattle.arena.specs.Job.{job_of}
