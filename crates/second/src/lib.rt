@@ -26,13 +26,14 @@ pub fn relation(
     if out.len() != a.states * a.states {
         return Err(Refusal::OutputLength);
     }
-    let next = rules::successors(moves);
+    let mut successors = rules::NO_MOVES;
+    rules::put_moves(moves, &mut successors);
     let rules = Rules {
         states: a.states,
         letters: a.letters,
         mode,
         accepting: rules::accepting(marks),
-        successors: &next,
+        successors: &successors,
     };
     Ok(write(rules, &rules.winning(), out))
 }

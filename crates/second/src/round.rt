@@ -54,6 +54,7 @@ impl Rules<'_> {
     }
 
     // The positions from which every move of Red has an answer into the set. Only delayed mode has any with b = 1.
+    #[inline(always)]
     pub fn answered(self, set: &Positions) -> Positions {
         let layers = if matches!(self.mode, Mode::Delayed) {
             2

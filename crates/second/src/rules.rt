@@ -8,6 +8,8 @@ use automaton::{Automaton, Mode};
 // The moves by their letters and the states they come from: the states they lead to.
 pub type Successors = [[u64; Automaton::STATES]; Automaton::LETTERS];
 
+pub const NO_MOVES: Successors = [[0; Automaton::STATES]; Automaton::LETTERS];
+
 // A set of Spoiler's positions (b, q, q') has q' in its row q of layer b.
 pub type Positions = [[u64; Automaton::STATES]; 2];
 
@@ -56,17 +58,15 @@ pub fn accepting(marks: &[u8]) -> u64
     set
 }
 
-// The states that each letter leads to from each state.
-pub fn successors(moves: &[u8]) -> Successors
+// Puts the moves into rows that are empty. They are lent, since a row of rows is long to hand on.
+pub fn put_moves(moves: &[u8], rows: &mut Successors)
     requires { Within moves.now }
 {
-    let mut rows = [[0; Automaton::STATES]; Automaton::LETTERS];
     for i in 0..moves.len() / 3 {
         let at = i * 3;
         let (from, letter, to) = (moves[at], moves[at + 1], moves[at + 2]);
         rows[usize::from(letter)][usize::from(from)] |= 1 << to;
     }
-    rows
 }
 
 impl Rules<'_> {

@@ -15,8 +15,8 @@ accepting-requires c =
     let F : Formed (board_of c.args.a c.args.marks.now c.args.moves.now) = formed _ _ c.in_ok-check.ensures in
     omega (arith, F.few, F.marked)
 
-pub successors-next-requires : goal.successors-next-requires
-successors-next-requires c =
+pub put_moves-requires : goal.put_moves-requires
+put_moves-requires c =
     let F : Formed (board_of c.args.a c.args.marks.now c.args.moves.now) = formed _ _ c.in_ok-check.ensures in
     λ i h. (omega (arith, F.inside i h, F.few), omega (arith, F.inside i h, F.few_letters), omega (arith, F.inside i h, F.few))
 
