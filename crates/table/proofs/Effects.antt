@@ -4,7 +4,7 @@ use Rattle.std.proofs.lemmas.Bool.{lt-leb}
 use Rattle.games.specs.Game.{Game}
 use Rattle.games.specs.Lift.{lift, rise}
 use Rattle.automaton.specs.declared.Refusal.{Refusal}
-use Rattle.automaton.specs.declared.Refusal.TheVariants.{AboveCeiling, PositionNumber}
+use Rattle.automaton.specs.declared.Refusal.TheVariants.{PositionNumber}
 use Rattle.automaton.specs.Answer.{valued, placed, refused, none, fault}
 use Rattle.automaton.specs.First.{first, first_below}
 use Rattle.entries.specs.Found.{restless}

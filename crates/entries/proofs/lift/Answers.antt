@@ -1,5 +1,5 @@
 -- `entries::lift` meets its contract: the entry is written exactly if what the position asks for is greater.
-use Rattle.std.proofs.Common.{arith, sym}
+use Rattle.std.proofs.Common.{arith}
 use Rattle.games.specs.Game.{Game}
 use Rattle.games.proofs.Sweeping.{lift-rose, lift_stayed}
 use Rattle.arena.specs.Game.{played}

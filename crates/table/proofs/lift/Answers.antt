@@ -1,5 +1,5 @@
 -- `table::lift` meets its contract: where the game was opened, the answer and the table are those of the lift in it.
-use Rattle.std.proofs.Common.{◌≡◌, sym, ap, ◌∙◌}
+use Rattle.std.proofs.Common.{sym, ap, ◌∙◌}
 use Rattle.std.proofs.lemmas.Result.{err_from_is_err_and}
 use Rattle.games.specs.Game.{Game}
 use Rattle.automaton.proofs.Effects.{both}

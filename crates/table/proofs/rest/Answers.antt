@@ -1,5 +1,5 @@
 -- `table::rest` meets its contract: where the game was opened, the answer is that of the test in it.
-use Rattle.std.proofs.Common.{◌≡◌, sym, ap, ◌∙◌}
+use Rattle.std.proofs.Common.{sym, ap, ◌∙◌}
 use Rattle.std.proofs.lemmas.Result.{err_from_is_err_and}
 use Rattle.games.specs.Game.{Game}
 use Rattle.automaton.specs.Answer.{Fault, unless}

@@ -1,5 +1,5 @@
 -- `table::settle` meets its contract: where the game was opened, the number of raises and the table are those of the settle in it.
-use Rattle.std.proofs.Common.{◌≡◌, sym, ap, ◌∙◌, List, ℕ}
+use Rattle.std.proofs.Common.{sym, ap, ◌∙◌, List, ℕ}
 use Rattle.std.proofs.lemmas.Result.{err_from_is_err_and}
 use Rattle.games.specs.Game.{Game}
 use Rattle.games.specs.Settle.{settle}

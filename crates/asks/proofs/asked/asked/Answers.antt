@@ -1,5 +1,5 @@
 -- `asks::asked::asked` meets its contract: the parts that the code divides out of v are those of its position, and they are in range.
-use Rattle.std.proofs.Common.{◌≡◌, sym, ap, ◌∙◌, ℕ, ◌-◌, ◌%◌, ◌≤◌, arith}
+use Rattle.std.proofs.Common.{◌≡◌, sym, ap, ◌∙◌, ℕ, ◌-◌, ◌%◌, arith}
 use Rattle.automaton.specs.Board.{Board}
 use Rattle.simulation.specs.Position.{Position, spoiler, duplicator, duplicator_at, position, Fits}
 use Rattle.simulation.proofs.Position.{spoilers_turn, duplicators_turn, position_fits}

@@ -1,5 +1,5 @@
 -- `asks::asked::duplicator_asks` meets its contract: the stretch that is scanned leads to the positions one step on.
-use Rattle.std.proofs.Common.{◌≡◌, sym, ap, ◌∙◌, subst, ℕ, length, arith}
+use Rattle.std.proofs.Common.{sym, ap, ◌∙◌, subst, ℕ, length, arith}
 use Rattle.games.specs.Game.{at, ask, lowest}
 use Rattle.simulation.specs.Position.{duplicator}
 use Rattle.simulation.proofs.Limits.{positions-most}

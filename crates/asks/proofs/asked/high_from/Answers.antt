@@ -1,5 +1,5 @@
 -- `asks::asked::high_from` meets its contract: the stretch that is scanned leads to the positions one step on.
-use Rattle.std.proofs.Common.{◌≡◌, sym, ap, ◌∙◌, subst, length, arith}
+use Rattle.std.proofs.Common.{sym, ap, ◌∙◌, subst, length, arith}
 use Rattle.games.specs.Game.{at, highest}
 use Rattle.simulation.proofs.Limits.{positions-most}
 use Rattle.asks.specs.declared.steps.Steps.{Steps}

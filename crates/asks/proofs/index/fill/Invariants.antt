@@ -1,7 +1,7 @@
 -- `asks::index::fill` meets its contract. The invariant: the entries below x are the places of their keys, and the moves before i have
 -- keys below x.
 use mathlib.Core.Path.{◌≡◌}
-use Prim.Native.Nat.{ℕ, ◌+◌, ◌-◌, ◌/◌, ◌≤◌, ◌<◌}
+use Prim.Native.Nat.{ℕ, ◌/◌, ◌≤◌, ◌<◌}
 use lib.ListN.{length, get_or}
 use Rattle.asks.specs.Index.{key}
 use Rattle.asks.proofs.Keys.{Begins}

@@ -17,8 +17,8 @@ returns c =
     let end : count ≡ c.args.i + left = omega (arith, c.requires.i_in_moves) in
     c.unwrap_or.ensures
     ∙ ap (λ (o : Option ℕ). unwrap_or o count) (
-      sym (option_map_id _)
-      ∙ find_from_yields_List test _ _ c.find.result c.find.ensures.ran (YieldsList-from_range c.args.i count left refl refl) (λ x b q k. search (rules, tests))
+    sym (option_map_id _)
+    ∙ find_from_yields_List test _ _ c.find.result c.find.ensures.ran (YieldsList-from_range c.args.i count left refl refl) (λ x b q k. search (rules, tests))
     )
     ∙ ap (unwrap_or (find test (range_with_len c.args.i left))) end
     ∙ first-find-or test c.args.i left
