@@ -14,8 +14,8 @@ pub const WORDS: usize = Automaton::STATES * Automaton::LETTERS;
 
 // Puts x into the set in word i.
 pub fn insert(sets: &mut [u64], i: usize, x: usize)
-    requires i_in_bounds { i < length sets.old }
-    requires x_bound { x < 64 }
+    requires word_in_bounds { i < length sets.old }
+    requires member_fits { x < 64 }
     ensures { Inserted sets.old i x sets.new }
 {
     sets[i] = words::with(sets[i], x);
@@ -27,12 +27,10 @@ pub fn accepting(game: &Game) -> u64
     ensures { Accepting (board game.now) result }
 {
     let mut acc = 0;
-    let mut q = 0;
-    while q < game.marks.len() {
-        if game.marks[q] == 1 {
+    for (q, mark) in game.marks.iter().enumerate() {
+        if *mark == 1 {
             acc = words::with(acc, q);
         }
-        q += 1;
     }
     acc
 }
@@ -46,15 +44,11 @@ pub fn draw(game: &Game, into: &mut [u64], onto: &mut [u64])
     ensures onto { Onto (board game.now) onto.new }
 {
     let letters = game.arena.letters;
-    let count = game.moves.len() / 3;
-    let mut i = 0;
-    while i < count {
-        let at = i * 3;
-        let from = wide(game.moves[at]);
-        let letter = wide(game.moves[at + 1]);
-        let to = wide(game.moves[at + 2]);
+    for step in game.moves.chunks_exact(3) {
+        let from = wide(step[0]);
+        let letter = wide(step[1]);
+        let to = wide(step[2]);
         insert(into, to * letters + letter, from);
         insert(onto, from * letters + letter, to);
-        i += 1;
     }
 }

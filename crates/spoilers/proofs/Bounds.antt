@@ -1,17 +1,13 @@
 -- Products of numbers within the limits: what positions are counted by is small.
-use mathlib.Core.List.{List}
-use Prim.Native.Nat.{ℕ, ◌+◌, ◌*◌, ◌≤◌, ◌<◌}
-use native.Mathlib.Nat.{mul-le-mul}
-use native.Mathlib.Omega.{arith}
+use Rattle.std.proofs.Common.{◌≡◌, ℕ, ◌+◌, ◌*◌, ◌≤◌, ◌<◌, mul-le-mul, arith, length}
 use lib.Arith.{digits_lt}
-use lib.ListN.{length}
 use Rattle.automaton.specs.declared.Mode.{Mode}
 use Rattle.automaton.specs.Board.{Board, accepts, Formed}
 use Rattle.automaton.specs.Limits.{most_letters, most_states}
-use Rattle.simulation.specs.Position.{layers, positions}
+use Rattle.simulation.specs.Position.{layers, pairs, positions}
 use Rattle.simulation.specs.Rules.{pended}
 use Rattle.simulation.proofs.Inward.{pended_lt}
-use Rattle.simulation.proofs.Limits.{layers-most, positions-most}
+use Rattle.simulation.proofs.Limits.{layers-most, pairs-most, positions-most}
 use Rattle.simulation.proofs.Position.{positions_are}
 use Rattle.arena.specs.declared.Arena.{Arena}
 use Rattle.arena.specs.declared.game.Game.{Game}
@@ -40,6 +36,21 @@ module _ (B : Board) (m : Mode) (F : Formed B) where
 
   pub challenged_small : (b r x a : ℕ) → b < layers m → r < B.n → x < B.n → a < B.k → challenged B m b r x a < 139264
   challenged_small b r x a hb hr hx ha = omega (arith, challenged-within b r x a hb hr hx ha, positions-most B F m)
+
+-- where the entries begin that moves into a column lead to: every number on the way is small
+pub record Blocked (g : Arena) (b r : ℕ) : Type 0 where
+  pub layer : b * (g.states * g.states) ≤ 4096
+  pub sum : b * (g.states * g.states) + r ≤ 4160
+  pub block : (b * (g.states * g.states) + r) * g.letters ≤ 66560
+  pub pairs : g.pairs ≤ 8192
+
+pub blocked : (g : Game) → Formed (board g) → g.arena.pairs ≡ pairs (board g) g.arena.mode → (b r : ℕ) → b < layers g.arena.mode → r < g.arena.states → Blocked g.arena b r
+blocked g F paired b r hb hr = record {
+  layer = layer-most (board g) g.arena.mode F b hb;
+  sum = omega (arith, layer-most (board g) g.arena.mode F b hb, F.few);
+  block = block-most (board g) g.arena.mode F b r hb hr;
+  pairs = omega (arith, paired, pairs-most (board g) g.arena.mode F.few);
+}
 
 -- the word of Duplicator's column (b,·,r,a) is among all, and its number is small
 pub record Worded (m : Mode) (n k b r a : ℕ) : Type 0 where

@@ -1,9 +1,6 @@
 -- A half that pushes or pulls: how it begins, and that every position has what it asks for where each of its steps is heeded or cannot raise it.
-use mathlib.Core.Logic.{◌⊎◌, inl, inr}
-use mathlib.Core.List.{List, Memᴰ}
-use Prim.Native.Nat.{ℕ, ◌≤◌, ◌<◌}
-use native.Mathlib.Nat.{le_trans}
-use native.Mathlib.Omega.{arith}
+use Rattle.std.proofs.Common.{◌⊎◌, inl, inr, List, ℕ, ◌≤◌, ◌<◌, le_trans, arith}
+use mathlib.Core.List.{Memᴰ}
 use Rattle.games.specs.Game.{asked, at}
 use Rattle.games.specs.Lift.{Capped}
 use Rattle.games.proofs.Rule.{rule-over}

@@ -1,11 +1,7 @@
 -- The parts of Spoiler's half one after the other: what each keeps, and that they compose.
-use mathlib.Core.Path.{◌≡◌, refl, subst, ◌∙◌}
-use mathlib.Core.List.{List, Memᴰ}
-use Prim.Native.Nat.{ℕ, ◌+◌, ◌≤◌, ◌<◌}
-use native.Mathlib.Nat.{le_refl, le_trans}
-use native.Mathlib.Omega.{arith}
+use Rattle.std.proofs.Common.{◌≡◌, refl, subst, ◌∙◌, List, ℕ, ◌+◌, ◌≤◌, ◌<◌, le_refl, le_trans, arith, length}
+use mathlib.Core.List.{Memᴰ}
 use native.Mathlib.Decide.{dec_lt}
-use lib.ListN.{length}
 use Rattle.games.specs.Game.{asked, at}
 use Rattle.games.proofs.Asked.{asked_local}
 use Rattle.games.proofs.Rose.{rose-most}

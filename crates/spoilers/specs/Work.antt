@@ -11,6 +11,7 @@ use Rattle.arena.specs.declared.game.Game.{Game}
 use Rattle.arena.specs.Game.{board, Playable}
 use Rattle.halves.specs.Rising.{Rising, Roomy, Underway}
 use Rattle.halves.specs.Half.{ruled, challenged}
+use Rattle.spoilers.specs.declared.gift.Gift.{Gift}
 
 -- a half is under way in an arena
 pub record Raising (g : Game) (s : Rising) : Type 0 where
@@ -28,6 +29,10 @@ pub record Working (g : Game) (s : Rising) : Type 0 where
 -- what state q gets: w if it is in the set, and v if not
 abbrev pub given : (bump v w q : ℕ) → ℕ
 given bump v w q = cond (eqb (dig bump q) 1) w v
+
+-- what a gift gives state q
+abbrev pub dealt : Gift → (q : ℕ) → ℕ
+dealt f = given f.bump f.plain f.more
 
 -- what an entry v gives state q if T is top: one more to those of the set, up to T
 abbrev pub gives : (bump top v q : ℕ) → ℕ

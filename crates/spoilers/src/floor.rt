@@ -7,6 +7,7 @@ ghost use Rattle.spoilers.specs.Floor.{AllFloored, FloorOf};
 ghost use Rattle.spoilers.specs.Shape.{Known};
 ghost use Rattle.spoilers.specs.Work.{Raising};
 
+use super::gift::Gift;
 use super::raise::put;
 use arena::Game;
 use automaton::Mode;
@@ -21,30 +22,23 @@ struct Floor {
 // What column (b, ·, r) asks for with High 0.
 fn floor_of(game: &Game, acc: u64, b: usize, r: usize) -> Floor
     requires known { Known game.now acc }
-    requires b_bound { (b < layers game.now.arena.mode) × (r < game.now.arena.states) }
+    requires column_in_game { (b < layers game.now.arena.mode) × (r < game.now.arena.states) }
     ensures { FloorOf (board game.now) game.now.arena.mode b r result.hit result.value }
 {
-    let mode = game.arena.mode;
-    let top = game.arena.top;
-    let states = game.arena.states;
     if words::has(acc, r) {
         return Floor { hit: 0, value: 0 };
     }
-    match mode {
+    match game.arena.mode {
         Mode::Ordinary => Floor { hit: 0, value: 0 },
         Mode::Direct => Floor {
             hit: acc,
-            value: top,
+            value: game.arena.top,
         },
-        Mode::Delayed => {
-            if b == 0 {
-                return Floor { hit: 0, value: 0 };
-            }
-            Floor {
-                hit: words::below(states),
-                value: 1,
-            }
-        }
+        Mode::Delayed if b == 0 => Floor { hit: 0, value: 0 },
+        Mode::Delayed => Floor {
+            hit: words::below(game.arena.states),
+            value: 1,
+        },
         Mode::Fair => Floor { hit: acc, value: 1 },
     }
 }
@@ -61,19 +55,19 @@ pub fn begin_layer(
 ) -> usize
     requires raising { Raising game.now (rising table.old risen.old rows.old olds.old) }
     requires known { Known game.now acc }
-    requires b_bound { b < layers game.now.arena.mode }
+    requires bit_in_game { b < layers game.now.arena.mode }
     ensures pushed { Pushed (board game.now) game.now.arena.mode (rising table.old risen.old rows.old olds.old) (rising table.new risen.new rows.new olds.new) result }
     ensures all_floored { AllFloored (board game.now) game.now.arena.mode table.new b }
 {
-    let states = game.arena.states;
     let mut raised = 0;
-    let mut r = 0;
-    while r < states {
-        let o = floor_of(game, acc, b, r);
-        raised += put(
-            game, table, risen, rows, olds, b, r, o.hit, 0, o.value, o.value,
-        );
-        r += 1;
+    for r in 0..game.arena.states {
+        let Floor { hit, value } = floor_of(game, acc, b, r);
+        let gift = Gift {
+            bump: 0,
+            plain: value,
+            more: value,
+        };
+        raised += put(game, table, risen, rows, olds, b, r, hit, gift);
     }
     raised
 }

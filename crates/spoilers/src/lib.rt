@@ -15,6 +15,7 @@ ghost use Rattle.spoilers.specs.Floor.{AllFloored};
 mod column;
 mod floor;
 mod front;
+mod gift;
 mod layer;
 mod letter;
 mod note;
@@ -52,15 +53,9 @@ pub fn push(
     ensures value { result ≡ rose table.old table.new (length table.old) }
     ensures all_noted { AllNoted (board game.now) game.now.arena.mode table.old (rising table.new risen.new rows.new olds.new) }
 {
-    let mode = game.arena.mode;
-    let layers = arena::layers_of(mode);
     let mut raised = 0;
-    let mut b = 0;
-    while b < layers {
-        raised += layer(
-            game, acc, into, grown, columns, table, risen, rows, olds, b,
-        );
-        b += 1;
+    for b in 0..arena::layers_of(game.arena.mode) {
+        raised += layer(game, acc, into, grown, columns, table, risen, rows, olds, b);
     }
     raised
 }
@@ -81,19 +76,15 @@ pub fn pull(
     requires onto { Onto (board game.now) onto.now }
     requires roomy { Roomy (board game.now) game.now.arena.mode (rising table.old risen.old rows.old olds.old) }
     requires capped { Capped (played game.now) table.old }
-    requires by_index { (b : ℕ) → b < layers game.now.arena.mode → AllFloored (board game.now) game.now.arena.mode table.old b }
+    requires floored { (b : ℕ) → b < layers game.now.arena.mode → AllFloored (board game.now) game.now.arena.mode table.old b }
     requires blank { Blank (board game.now) game.now.arena.mode risen.old }
     ensures halved { Halved (played game.now) 0 game.now.arena.pairs table.old table.new }
     ensures value { result ≡ rose table.old table.new (length table.old) }
     ensures all_noted { AllNoted (board game.now) game.now.arena.mode table.old (rising table.new risen.new rows.new olds.new) }
 {
-    let mode = game.arena.mode;
-    let layers = arena::layers_of(mode);
     let mut raised = 0;
-    let mut b = 0;
-    while b < layers {
+    for b in 0..arena::layers_of(game.arena.mode) {
         raised += pull_layer(game, acc, onto, table, risen, rows, olds, b);
-        b += 1;
     }
     raised
 }
@@ -110,19 +101,15 @@ pub fn begin(
     requires ready { Playable game.now table.old }
     requires accepting { Accepting (board game.now) acc }
     requires roomy { Roomy (board game.now) game.now.arena.mode (rising table.old risen.old rows.old olds.old) }
-    requires by_index { (v : ℕ) → at table.old v ≡ 0 }
+    requires zeros { (v : ℕ) → at table.old v ≡ 0 }
     requires blank { Blank (board game.now) game.now.arena.mode risen.old }
     ensures halved { Halved (played game.now) 0 game.now.arena.pairs table.old table.new }
     ensures value { result ≡ rose table.old table.new (length table.old) }
     ensures all_noted { AllNoted (board game.now) game.now.arena.mode table.old (rising table.new risen.new rows.new olds.new) }
 {
-    let mode = game.arena.mode;
-    let layers = arena::layers_of(mode);
     let mut raised = 0;
-    let mut b = 0;
-    while b < layers {
+    for b in 0..arena::layers_of(game.arena.mode) {
         raised += begin_layer(game, acc, table, risen, rows, olds, b);
-        b += 1;
     }
     raised
 }

@@ -25,7 +25,7 @@ begin-begun-requires c =
     let m : Mode = c.args.game.now.arena.mode in
     let lent : Lists = lists c.args.table.now c.args.risen.now c.args.rows.now c.args.olds.now c.args.grown.now c.args.columns.now in
     let zeros : (v : ℕ) → at lent.table v ≡ 0 = λ v. rw c.requires.table_value (cleared_at (positions B m) v) in
-    record { ready = c.requires.equipped.ready; accepting = c.requires.equipped.accepting; roomy = roomy_of lent c.requires.equipped; by_index = zeros; blank = c.requires.blank }
+    record { ready = c.requires.equipped.ready; accepting = c.requires.equipped.accepting; roomy = roomy_of lent c.requires.equipped; zeros = zeros; blank = c.requires.blank }
 
 pub dead_ends-ended-requires : goal.dead_ends-ended-requires
 dead_ends-ended-requires c =

@@ -1,6 +1,4 @@
 -- `spoilers::layer::column` meets its contract. The invariant: all that is marked by the letters below a is heeded, and those done have had the greatest entry.
--- The measure is the number of letters left.
-use Prim.Native.Nat.{◌-◌, ◌≤◌}
 use Rattle.arena.specs.Game.{board}
 use Rattle.halves.specs.Rising.{rising}
 use Rattle.spoilers.specs.Front.{Guarded, Lettered}
@@ -9,9 +7,5 @@ use Rattle.spoilers.proofs.layer.column.Given as goal
 
 abbrev pub invariant-loop-a : goal.invariant-loop-a
 invariant-loop-a l =
-    (l.a ≤ l.game.arena.letters)
-    × Upto (board l.game) l.game.arena.mode (Lettered (board l.game) l.game.arena.mode l.grown l.c.bit l.c.blue) (rising l.initial.table l.initial.risen l.initial.rows l.initial.olds) (rising l.table l.risen l.rows l.olds) l.raised l.a
-    × Guarded (board l.game) l.game.arena.mode l.table l.c l.cur l.done
-
-abbrev pub decreases-loop-a : goal.decreases-loop-a
-decreases-loop-a l = l.game.arena.letters - l.a
+    Upto (board l.game) l.game.arena.mode (Lettered (board l.game) l.game.arena.mode l.grown l.c.bit l.c.blue) (rising l.initial.table l.initial.risen l.initial.rows l.initial.olds) (rising l.table l.risen l.rows l.olds) l.raised l.a
+    × Guarded (board l.game) l.game.arena.mode l.table l.c l.front

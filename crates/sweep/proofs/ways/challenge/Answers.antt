@@ -10,7 +10,7 @@ pub pull-requires : goal.pull-requires
 pull-requires c =
     let a = c.args in
     let floor = calm-floor (board a.game.now) a.game.now.arena.mode a.table.now a.grown.now a.columns.now c.requires.all_calm in
-    record { ready = c.requires.ready; accepting = c.requires.accepting; onto = c.requires.onto; roomy = c.requires.roomy; capped = c.requires.capped; by_index = floor; blank = c.requires.blank }
+    record { ready = c.requires.ready; accepting = c.requires.accepting; onto = c.requires.onto; roomy = c.requires.roomy; capped = c.requires.capped; floored = floor; blank = c.requires.blank }
 
 pub push-requires : goal.push-requires
 push-requires c =
