@@ -29,6 +29,7 @@ fn mark(game: &Game, w: Row, r: usize, a: usize, grown: &mut [u64], columns: &mu
 }
 
 // Raises the entry of (b,q,r,a) to e, which is what it asks for if that is more than it has. Did it rise?
+#[inline]
 fn raise(
     game: &Game,
     w: Row,
@@ -55,6 +56,7 @@ fn raise(
 }
 
 // Raises a letter's candidates to what they ask for: how many rose.
+#[inline]
 fn raise_letter<T: Tell>(
     game: &Game,
     tell: &T,
@@ -81,6 +83,7 @@ fn raise_letter<T: Tell>(
 }
 
 // The same of every letter.
+#[inline]
 pub fn raise_all<T: Tell>(
     game: &Game,
     tell: &T,

@@ -36,6 +36,7 @@ fn low_scan(acc: u64, table: &[u32], w: Row, n: usize, steps: u64, old: u32, top
 impl<'a> Tell for Scan<'a> {
     ghost can_tell = { λ x g t w r a. Accepting (board g) x.acc × Onto (board g) x.onto.now };
 
+    #[inline]
     fn low(&self, game: &Game, table: &[u32], w: Row, r: usize, a: usize) -> u32 {
         let old = table[w.place(game, r, a)];
         let steps = self.onto[r * game.arena.letters + a];

@@ -19,6 +19,7 @@ pub struct Told<'a> {
 impl<'a> Tell for Told<'a> {
     ghost can_tell = { λ x g t w r a. (g.arena.states * g.arena.letters ≤ length x.onto.now) × Tells (board g) g.arena.mode t w.b w.q x.onto.now x.levels.now g.arena.top r a };
 
+    #[inline]
     fn low(&self, game: &Game, _table: &[u32], _w: Row, r: usize, a: usize) -> u32 {
         let steps = self.onto[r * game.arena.letters + a];
         low_among(self.levels, steps, game.arena.top)
