@@ -22,14 +22,14 @@ overflow_add-ones c =
     let f = byte a.seats.now.arena a.seats.now.marks.now a.seats.now.table.now in
     let few = count_most f (λ i. bit-most (below (bare a.seats.now.arena a.seats.now.marks.now) a.seats.now.arena.mode a.seats.now.table.now (i / a.seats.now.arena.states) (i % a.seats.now.arena.states))) c.loop-i.i in
     let square = square_most a.seats.now.arena a.seats.now.marks.now a.seats.now.table.now a.seats.now.seated in
-    omega (arith, byte_is c.below-related.result, bit-most c.below-related.result)
+    omega (arith, byte_is c.is_below-related.result, bit-most c.is_below-related.result)
 
 pub loop-i-preserved : goal.loop-i-preserved
 loop-i-preserved c =
     let a = c.args in
     let f = byte a.seats.now.arena a.seats.now.marks.now a.seats.now.table.now in
     let i = c.loop-i.i in
-    let here = byte_is c.below-related.result ∙ ap bit c.below-related.ensures in (
+    let here = byte_is c.is_below-related.result ∙ ap bit c.is_below-related.ensures in (
       ap (λ (o : List ℕ). set o i c.from.result) c.loop-i.invariant.0
           ∙ ap (set (map f (ascending 0 i) ++ drop i a.out.now) i) (c.from.ensures ∙ here)
           ∙ written-more f i a.out.now (omega arith),
