@@ -2,12 +2,10 @@
 ghost use Rattle.std.specs.Prelude.{◌≤◌};
 
 use super::draw;
-use super::text::Case;
-use arena::Counted;
+use super::text::Shown;
+use arena::Job;
 use automaton::{Automaton, Refusal};
-use relation::Related;
 use std::io;
-use table::Settled;
 
 // The entries and the pairs of the largest automata drawn.
 pub const ENTRIES: usize = 2 * draw::STATES * draw::STATES * (1 + draw::LETTERS);
@@ -19,7 +17,7 @@ pub fn size_of(a: Automaton, mode: usize) -> usize
     ensures { result ≤ 640 }
 {
     match arena::positions(a, mode) {
-        Counted::Number(size) if size <= ENTRIES => size,
+        Ok(size) if size <= ENTRIES => size,
         _ => 0,
     }
 }
@@ -36,57 +34,39 @@ pub fn pairs_of(a: Automaton) -> usize
 }
 
 // Is the relation that is read off the settled table the one that `second` reckons?
-fn compared(case: &Case) -> Result<bool, Refusal> {
+fn compared(job: &Job) -> Result<bool, Refusal> {
+    let a = job.automaton;
+    let size = size_of(a, job.mode);
+    let pairs = pairs_of(a);
     let mut entries = [0u32; ENTRIES];
     let mut first = [0u8; PAIRS];
     let mut other = [0u8; PAIRS];
-    let a = case.automaton;
-    let size = size_of(a, case.mode);
-    let pairs = pairs_of(a);
-    if let Settled::Refused(refusal) = table::settle(
-        a,
-        case.marks,
-        case.moves,
-        case.mode,
-        &mut entries[..size],
-    ) {
-        return Err(refusal);
-    }
-    let ones = match relation::relation(
-        a,
-        case.marks,
-        case.moves,
-        case.mode,
-        &entries[..size],
-        &mut first[..pairs],
-    ) {
-        Related::Refused(refusal) => return Err(refusal),
-        Related::Ones(ones) => ones,
-    };
-    let others = second::relation(a, case.marks, case.moves, case.mode, &mut other[..pairs])?;
+    table::settle(job, &mut entries[..size])?;
+    let ones = relation::relation(job, &entries[..size], &mut first[..pairs])?;
+    let others = second::relation(a, job.marks, job.moves, job.mode, &mut other[..pairs])?;
     Ok(ones == others && first == other)
 }
 
 // Does the relation agree with `second`'s in all four modes? If it does not, or a call refuses, says where, with the automaton.
-pub fn agrees(
+pub fn agrees<'a>(
     rt: &impl Print,
     automaton: Automaton,
-    marks: &[u8],
-    moves: &[u8],
+    marks: &'a [u8],
+    moves: &'a [u8],
 ) -> io::Result<bool> {
     for mode in 0..4 {
-        let case = Case {
+        let job = Job {
             automaton,
             marks,
             moves,
             mode,
         };
-        match compared(&case) {
+        match compared(&job) {
             Ok(true) => continue,
             Ok(false) => println!(rt; "the relations differ")?,
             Err(refusal) => println!(rt; "refused\t{}", refusal.number())?,
         }
-        print!(rt; "{case}")?;
+        print!(rt; "{}", Shown(&job))?;
         return Ok(false);
     }
     Ok(true)

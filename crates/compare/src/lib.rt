@@ -9,4 +9,4 @@ mod text; // text.rt: an automaton as the text that the programs read
 pub use agree::{ENTRIES, PAIRS, pairs_of, size_of};
 pub use draw::{BYTES, Random, TRIPLES, moves_of};
 pub use every::{all_moves, at_random};
-pub use text::{Case, Entries};
+pub use text::{Entries, Shown};

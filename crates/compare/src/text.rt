@@ -1,31 +1,28 @@
 // An automaton as the text that the programs read, so that a case can be run again.
+use arena::Job;
 use automaton::Automaton;
 use std::fmt;
 
-// An automaton with its marks and moves, and a mode.
+// A job: its automaton and its mode.
 #[derive(Clone, Copy)]
-pub struct Case<'a> {
-    pub automaton: Automaton,
-    pub marks: &'a [u8],
-    pub moves: &'a [u8],
-    pub mode: usize,
-}
+pub struct Shown<'a>(pub &'a Job<'a>);
 
-impl fmt::Display for Case<'_> {
+impl fmt::Display for Shown<'_> {
     fn fmt<W: fmt::Write>(&self, f: &mut fmt::Formatter<W>) -> fmt::Result {
+        let job = self.0;
         let Automaton {
             states,
             letters,
             start,
-        } = self.automaton;
-        let mode = self.mode;
+        } = job.automaton;
+        let mode = job.mode;
         writeln!(f, "automaton\t{states}\t{letters}\t{start}\nmode\t{mode}")?;
-        for (q, mark) in self.marks.iter().enumerate() {
+        for (q, mark) in job.marks.iter().enumerate() {
             if *mark == 1 {
                 writeln!(f, "accept\t{q}")?;
             }
         }
-        for triple in self.moves.chunks_exact(3) {
+        for triple in job.moves.chunks_exact(3) {
             if let [from, letter, to] = triple {
                 writeln!(f, "move\t{from}\t{letter}\t{to}")?;
             }

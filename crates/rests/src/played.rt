@@ -1,9 +1,8 @@
 // Play by the replies of a table at rest, followed over all of Spoiler's moves, on automata of up to 4 states and 2 letters.
 ghost use Rattle.std.specs.Prelude.{◌≤◌, ◌<◌, IfSome};
 
+use arena::Job;
 use automaton::Mode;
-use compare::Case;
-use relation::Replied;
 
 pub const PLACES: usize = 32;
 
@@ -46,7 +45,7 @@ fn layers(mode: usize) -> usize
 }
 
 // The number of Spoiler's position at a place, by document 01's numbering, if the automaton has it.
-pub fn spoiler(job: &Case, place: Place) -> Option<usize>
+pub fn spoiler(job: &Job, place: Place) -> Option<usize>
     ensures { IfSome result (λ number. number < 64) }
 {
     let n = job.automaton.states;
@@ -58,7 +57,7 @@ pub fn spoiler(job: &Case, place: Place) -> Option<usize>
 }
 
 // The reply at Duplicator's position behind a place, to a letter.
-fn reply_at(job: &Case, entries: &[u32], place: Place, letter: usize) -> Option<usize> {
+fn reply_at(job: &Job, entries: &[u32], place: Place, letter: usize) -> Option<usize> {
     let a = job.automaton;
     let number = spoiler(job, place)?;
     if 2 < a.letters || a.letters <= letter {
@@ -66,17 +65,14 @@ fn reply_at(job: &Case, entries: &[u32], place: Place, letter: usize) -> Option<
     }
     let pairs = layers(job.mode) * (a.states % 5) * (a.states % 5);
     let position = pairs + number * a.letters + letter;
-    match relation::reply(a, job.marks, job.moves, job.mode, entries, position) {
-        Replied::Blue(state) => Some(state),
-        Replied::Refused(_) => None,
-    }
+    relation::reply(job, entries, position).ok()
 }
 
 // The replies at Duplicator's positions, by the place they lie behind and the letter.
 pub type Replies = [[Option<usize>; 2]; PLACES];
 
 // The replies of a table at each of them.
-pub fn replies(job: &Case, entries: &[u32]) -> Replies {
+pub fn replies(job: &Job, entries: &[u32]) -> Replies {
     let mut replies = [[None; 2]; PLACES];
     for (index, row) in replies.iter_mut().enumerate() {
         for (letter, reply) in row.iter_mut().enumerate() {
@@ -89,7 +85,7 @@ pub fn replies(job: &Case, entries: &[u32]) -> Replies {
 // A job with the replies of its table.
 #[derive(Clone, Copy)]
 pub struct Play<'a> {
-    pub job: &'a Case<'a>,
+    pub job: &'a Job<'a>,
     pub replies: &'a Replies,
 }
 

@@ -1,12 +1,10 @@
 // Tables at rest that are not the least: pseudo-random entries, lifted until they are at rest. What is read off them stays true.
 use super::played::{self, Place, Play};
-use arena::Counted;
+use arena::Job;
 use automaton::{Automaton, Mode, Refusal};
-use compare::{Case, Entries, Random};
-use relation::Related;
+use compare::{Entries, Random, Shown};
 use std::io;
 use std::ops::AddAssign;
-use table::Rested;
 
 // How many automata are drawn, and the most sweeps that a table is given to come to rest: more than the raises that it has room for.
 const DRAWN: usize = 1000;
@@ -43,22 +41,13 @@ impl AddAssign for Seen {
 }
 
 // Lifts the table until it is at rest: whether it came there.
-fn come_to_rest(job: &Case, entries: &mut [u32]) -> Result<bool, Refusal> {
+fn come_to_rest(job: &Job, entries: &mut [u32]) -> Result<bool, Refusal> {
     for _ in 0..SWEEPS {
-        match table::rest(job.automaton, job.marks, job.moves, job.mode, entries) {
-            Rested::AtRest => return Ok(true),
-            Rested::Refused(refusal) => return Err(refusal),
-            Rested::Restless(_) => {}
+        if table::rest(job, entries)?.is_none() {
+            return Ok(true);
         }
         for position in 0..entries.len() {
-            table::lift(
-                job.automaton,
-                job.marks,
-                job.moves,
-                job.mode,
-                entries,
-                position,
-            );
+            table::lift(job, entries, position)?;
         }
     }
     Ok(false)
@@ -82,7 +71,7 @@ fn promise(play: &Play, number: Option<usize>, place: Place, entries: &[u32], to
 }
 
 // The promises of a table at rest, in delayed and in fair mode.
-fn promises(job: &Case, entries: &[u32], top: usize) -> Seen {
+fn promises(job: &Job, entries: &[u32], top: usize) -> Seen {
     let mut seen = Seen::default();
     if job.mode == Mode::ORDINARY || job.mode == Mode::DIRECT {
         return seen;
@@ -101,15 +90,12 @@ fn promises(job: &Case, entries: &[u32], top: usize) -> Seen {
 // Has a table of pseudo-random entries up to T, most of them 0, come to rest, and looks at what is read off it: against the settled
 // table, against `second`, and in play.
 fn look(
-    job: &Case,
+    job: &Job,
     mut random: Random,
     entries: &mut [u32],
     settled: &mut [u32],
 ) -> Result<Seen, Refusal> {
-    let top = match arena::ceiling(job.automaton, job.marks, job.moves, job.mode) {
-        Counted::Refused(refusal) => return Err(refusal),
-        Counted::Number(top) => top,
-    };
+    let top = arena::ceiling(job)?;
     let above = top as u64 % 65536 + 1;
     let share = 1 + random.0 / 64 % 8;
     random.scatter(
@@ -118,27 +104,13 @@ fn look(
         |drawn| (drawn / 1048576 % 65536 % above) as u32,
     );
     let at_rest = come_to_rest(job, entries)?;
-    table::settle(job.automaton, job.marks, job.moves, job.mode, settled);
-    let pairs = compare::pairs_of(job.automaton);
+    table::settle(job, settled)?;
+    let a = job.automaton;
+    let pairs = compare::pairs_of(a);
     let mut first = [0u8; compare::PAIRS];
     let mut other = [0u8; compare::PAIRS];
-    if let Related::Refused(refusal) = relation::relation(
-        job.automaton,
-        job.marks,
-        job.moves,
-        job.mode,
-        entries,
-        &mut first[..pairs],
-    ) {
-        return Err(refusal);
-    }
-    second::relation(
-        job.automaton,
-        job.marks,
-        job.moves,
-        job.mode,
-        &mut other[..pairs],
-    )?;
+    relation::relation(job, entries, &mut first[..pairs])?;
+    second::relation(a, job.marks, job.moves, job.mode, &mut other[..pairs])?;
     let mut seen = promises(job, entries, top);
     seen += Seen {
         tables: 1,
@@ -155,16 +127,16 @@ fn look(
 }
 
 // Looks at one table in each mode, up to the first that says what is not so, which is printed with its automaton and mode.
-fn look_in_modes(
+fn look_in_modes<'a>(
     rt: &impl Print,
     automaton: Automaton,
-    marks: &[u8],
-    moves: &[u8],
+    marks: &'a [u8],
+    moves: &'a [u8],
     random: Random,
 ) -> io::Result<Seen> {
     let mut seen = Seen::default();
     for mode in 0..4 {
-        let job = Case {
+        let job = Job {
             automaton,
             marks,
             moves,

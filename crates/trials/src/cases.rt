@@ -1,8 +1,7 @@
 // Document 01's cases that are not marked p, on the calls themselves; a wrong number of marks; and which modes a quotient is formed in.
-use super::interim as old;
 use super::told::Told;
 use automaton::{Automaton, Mode, Refusal};
-use compare::Case as Job;
+use arena::Job;
 use std::io;
 
 // Automata A and C of document 01, which differ in their marks and moves.

@@ -2,7 +2,6 @@
 #![tactic(auto)]
 
 mod cases; // cases.rt: document 01's cases that are not proved
-mod interim;
 mod jobs; // jobs.rt: a job for the calls with chosen faults
 mod refusals; // refusals.rt: every refusal of every call
 mod told; // told.rt: the number and the place of each answer

@@ -1,9 +1,8 @@
 // Every refusal that the calls on an automaton can give. A row for each call: under each refusal's number, the number and the place that the call gave, first for
 // the job with that fault alone, then for the one with all later faults too.
-use super::interim as old;
 use super::jobs::Faults;
 use super::told::Told;
-use compare::Case as Job;
+use arena::Job;
 use std::{fmt, io};
 
 // The number of refusals.
@@ -83,52 +82,28 @@ impl Call {
         let short = faults.short();
         let mut outputs = UNWRITTEN;
         let told = match self {
-            Call::Limits => Told::of(old::of_checked(automaton::limits(a))),
-            Call::Check => Told::of(old::of_checked(automaton::check(a, job.marks, job.moves))),
-            Call::Positions => Told::of(old::of_counted(arena::positions(a, job.mode))),
-            Call::Ceiling => Told::of(old::of_counted(arena::ceiling(
-                a, job.marks, job.moves, job.mode,
-            ))),
-            Call::ForTable => Told::of(old::of_opened(arena::for_table(
-                a,
-                job.marks,
-                job.moves,
-                job.mode,
-                table.len(),
-            ))),
-            Call::Clear => Told::of(old::of_cleared(table::clear(
-                a, job.marks, job.moves, job.mode, table,
-            ))),
-            Call::Settle => Told::of(old::of_settled(table::settle(
-                a, job.marks, job.moves, job.mode, table,
-            ))),
-            Call::Lift => Told::of(old::of_lifted(table::lift(
-                a, job.marks, job.moves, job.mode, table, position,
-            ))),
-            Call::Rest => Told::of_rest(old::of_rested(table::rest(
-                a, job.marks, job.moves, job.mode, table,
-            ))),
-            Call::Relation => Told::of(old::of_related(relation::relation(
-                a,
-                job.marks,
-                job.moves,
-                job.mode,
+            Call::Limits => Told::of(automaton::limits(a)),
+            Call::Check => Told::of(automaton::check(a, job.marks, job.moves)),
+            Call::Positions => Told::of(arena::positions(a, job.mode)),
+            Call::Ceiling => Told::of(arena::ceiling(job)),
+            Call::ForTable => Told::of(arena::for_table(job, table.len())),
+            Call::Clear => Told::of(table::clear(job, table)),
+            Call::Settle => Told::of(table::settle(job, table)),
+            Call::Lift => Told::of(table::lift(job, table, position)),
+            Call::Rest => Told::of_rest(table::rest(job, table)),
+            Call::Relation => Told::of(relation::relation(
+                job,
                 table,
                 &mut outputs.pairs[..4 - short],
-            ))),
-            Call::Reply => Told::of(old::of_replied(relation::reply(
-                a, job.marks, job.moves, job.mode, table, position,
-            ))),
-            Call::Quotient => Told::of(old::of_merged(quotient::quotient(
-                a,
-                job.marks,
-                job.moves,
-                job.mode,
+            )),
+            Call::Reply => Told::of(relation::reply(job, table, position)),
+            Call::Quotient => Told::of(quotient::quotient(
+                job,
                 table,
                 &mut outputs.classes[..2 - short],
                 &mut outputs.classmarks[..2 - short],
                 &mut outputs.classmoves[..faults.bytes() - short],
-            ))),
+            )),
         };
         (told, outputs)
     }
