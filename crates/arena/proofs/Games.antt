@@ -1,8 +1,7 @@
 -- What the game of a job is: the theory's game of the job, and playable on the table that it was opened for.
-use Rattle.std.proofs.Common.{◌≡◌, sym, ℕ, List, length, Ok}
+use Rattle.std.proofs.Common.{◌≡◌, ℕ, List, length, Ok}
 use Rattle.arena.specs.declared.game.Game.{Game}
 use Rattle.arena.specs.Job.{Job, game_of}
-use Rattle.arena.specs.Arena.{game_in, Ready}
 use Rattle.arena.specs.Game.{played, Playable, Opens}
 use Rattle.arena.proofs.Open.{open_game, open_ready}
 

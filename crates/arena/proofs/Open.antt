@@ -1,13 +1,12 @@
 -- What opening an arena tells: which refusal there is, or that there is none and the arena fits the lent bytes.
 use mathlib.Core.Path.{◌≡◌, refl, sym, ap, ◌∙◌, subst}
 use mathlib.Core.Logic.Iff
-use mathlib.Core.Logic.{◌≢◌}
 use mathlib.Core.List.{List, [], ◌∷◌}
-use Prim.Native.Nat.{ℕ, ◌+◌, ◌*◌, ◌≤◌}
+use Prim.Native.Nat.{ℕ, ◌≤◌}
 use Rattle.std.proofs.Common.{Some, None, Ok, Err}
 use lib.Dec.{eqb}
 use lib.ListN.{length}
-use borrow.Author.Tests.{eqb-true, eq-eqb, ne_eqb, not-false}
+use borrow.Author.Tests.{eqb-true, eq-eqb, not-false}
 use Rattle.automaton.specs.declared.Mode.{Mode}
 use Rattle.automaton.specs.declared.Mode.TheVariants.{Ordinary, Direct, Delayed, Fair}
 use Rattle.automaton.specs.declared.Refusal.{Refusal}
@@ -84,12 +83,6 @@ size-line P entries = fails-line _ _ TableLength (λ e. eqb-true entries P (not-
 
 pub open_line : (j : Job) (t : List ℕ) → Line (open_fault j (length t)) (Fitting j t)
 open_line j t = Iff.trans (table-line (job_line j then size-line (game_of j).P (length t) then end)) (λ h. (h.0, h.1.0), λ h. (h.0, (h.1, tt)))
-
-pub fitted_short : (g : Arena) (entries : ℕ) → entries ≢ g.pairs * (1 + g.letters) → Err TableLength ≡ fitted g entries
-fitted_short g entries n = simp (ne_eqb entries (g.pairs * (1 + g.letters)) n)
-
-pub fitted_open : (g : Arena) (entries : ℕ) → entries ≡ g.pairs * (1 + g.letters) → Ok g ≡ fitted g entries
-fitted_open g entries e = simp (eq-eqb entries (g.pairs * (1 + g.letters)) e)
 
 module _ (j : Job) (entries : ℕ) where
   pub opened_shut : (r : Refusal) → entered j ≡ Err r → Err r ≡ opened j entries
