@@ -82,22 +82,24 @@ pub fn replies(job: &Job, entries: &[u32]) -> Replies {
     replies
 }
 
-// A job with the replies of its table.
+// The marks and the moves that a play goes by, with the replies of a table, in delayed or in fair mode.
 #[derive(Clone, Copy)]
 pub struct Play<'a> {
-    pub job: &'a Job<'a>,
+    pub delayed: bool,
+    pub marks: &'a [u8],
+    pub moves: &'a [u8],
     pub replies: &'a Replies,
 }
 
 impl Play<'_> {
     // Does the state accept?
     pub fn accepts(&self, q: usize) -> bool {
-        matches!(self.job.marks.get(q), Some(1))
+        matches!(self.marks.get(q), Some(1))
     }
 
     // What is owed when a state is come to: `accepted` in delayed mode if it accepts, else what was.
     fn owed(&self, was: bool, q: usize, accepted: bool) -> bool {
-        if self.job.mode == Mode::DELAYED && self.accepts(q) {
+        if self.delayed && self.accepts(q) {
             accepted
         } else {
             was
@@ -123,7 +125,7 @@ impl Play<'_> {
 
     // Does the count end at this place? In delayed mode where nothing is owed, in fair mode where Blue accepts.
     pub fn ends(&self, place: Place) -> bool {
-        if self.job.mode == Mode::DELAYED {
+        if self.delayed {
             !place.owed
         } else {
             self.accepts(place.blue)
@@ -132,12 +134,12 @@ impl Play<'_> {
 
     // What a place counts, where it does not end the count: 1 in delayed mode, and in fair mode where Red accepts.
     fn weight(&self, place: Place) -> u32 {
-        u32::from(self.job.mode == Mode::DELAYED || self.accepts(place.red))
+        u32::from(self.delayed || self.accepts(place.red))
     }
 
     // Counts on from a place with a count by each of Red's moves: whether a count rose, if no reply is missing.
     fn visit(&self, place: Place, count: u32, counts: &mut [Option<u32>; PLACES]) -> Option<bool> {
-        let moves = self.job.moves;
+        let moves = self.moves;
         let mut rose = false;
         for triple in moves.chunks_exact(3) {
             if let [from, letter, to] = triple {

@@ -77,7 +77,9 @@ fn promises(job: &Job, entries: &[u32], top: usize) -> Seen {
         return seen;
     }
     let play = Play {
-        job: &*job,
+        delayed: job.mode == Mode::DELAYED,
+        marks: job.marks,
+        moves: job.moves,
         replies: &played::replies(job, entries),
     };
     for index in 0..played::PLACES {
@@ -154,7 +156,8 @@ fn look_in_modes<'a>(
         seen += look(&job, random, entries, &mut settled[..size]).unwrap_or(refused);
         if seen.is_false() {
             print!(rt;
-                "a table at rest says what is not so\n{job}{}",
+                "a table at rest says what is not so\n{}{}",
+                Shown(&job),
                 Entries(entries)
             )?;
             return Ok(seen);

@@ -1,7 +1,7 @@
 // Document 01's cases that are not marked p, on the calls themselves; a wrong number of marks; and which modes a quotient is formed in.
 use super::told::Told;
-use automaton::{Automaton, Mode, Refusal};
 use arena::Job;
+use automaton::{Automaton, Mode, Refusal};
 use std::io;
 
 // Automata A and C of document 01, which differ in their marks and moves.
@@ -23,13 +23,13 @@ fn check_sizes(states: usize, letters: usize) -> usize {
         letters,
         start: 0,
     };
-    Told::of(old::of_checked(automaton::check(a, &marks[..states.min(65)], &[]))).number
+    Told::of(automaton::check(a, &marks[..states.min(65)], &[])).number
 }
 
 // The place that `check` gives automaton A with so many marks, up to 3, all of them 0, if it refuses the marks.
 fn check_marks(count: usize) -> Option<usize> {
     let marks = [0u8; 3];
-    match old::of_checked(automaton::check(TWO, &marks[..count.min(3)], &A_MOVES)) {
+    match automaton::check(TWO, &marks[..count.min(3)], &A_MOVES) {
         Err(Refusal::Marks(place)) => Some(place),
         _ => None,
     }
@@ -44,9 +44,9 @@ fn lift_two(first: usize, then: usize) -> Result<u32, Refusal> {
         mode: Mode::DELAYED,
     };
     let mut entries = [9u32; 16];
-    old::of_cleared(table::clear(TWO, job.marks, job.moves, job.mode, &mut entries))?;
-    old::of_lifted(table::lift(TWO, job.marks, job.moves, job.mode, &mut entries, first))?;
-    old::of_lifted(table::lift(TWO, job.marks, job.moves, job.mode, &mut entries, then))?;
+    table::clear(&job, &mut entries)?;
+    table::lift(&job, &mut entries, first)?;
+    table::lift(&job, &mut entries, then)?;
     Ok(entries[15])
 }
 
@@ -62,16 +62,13 @@ fn merge_c(mode: usize, size: usize) -> usize {
     let mut classes = [0u8; 2];
     let mut classmarks = [0u8; 2];
     let mut classmoves = [0u8; 6];
-    Told::of(old::of_merged(quotient::quotient(
-        TWO,
-        job.marks,
-        job.moves,
-        job.mode,
+    Told::of(quotient::quotient(
+        &job,
         &mut entries[..size.min(16)],
         &mut classes,
         &mut classmarks,
         &mut classmoves,
-    )))
+    ))
     .number
 }
 
