@@ -14,12 +14,12 @@ use Rattle.automaton.specs.declared.Mode.{Mode}
 use Rattle.automaton.specs.Board.{Board, accepts, Formed}
 use Rattle.simulation.specs.Position.{duplicator, layers, pairs, positions, number}
 use Rattle.simulation.specs.Rules.{eased, game}
-use Rattle.arena.specs.declared.game.Game.{Game}
 use Rattle.arena.proofs.Open.{ready-again}
 use Rattle.halves.specs.Half.{low_at, Stirred}
 use Rattle.halves.proofs.Places.{each-duplicator}
 use Rattle.halves.specs.Rising.{rising}
 use Rattle.levels.proofs.Stored.{below_one}
+use Rattle.duplicators.specs.declared.drawn.Drawn.{Drawn}
 use Rattle.duplicators.specs.Growing.{Growing, Answered, AnsweredIn}
 use Rattle.duplicators.specs.Rows.{Still, RowStill, LayerStill, RedStirred, LayerStirred, Prepared}
 use Rattle.duplicators.proofs.Asking.{eased_stays}
@@ -29,13 +29,11 @@ use Rattle.duplicators.proofs.Work.{spacious-again}
 
 -- ---- what the work asks for holds after a part of it
 
-pub prepared_again : (g : Game) (acc : ℕ) (into onto risen rows olds : List ℕ) (s u : Growing) {c : ℕ} → AnsweredIn g s u c
-    → Prepared g acc into onto (rising s.table risen rows olds) s.grown s.columns → Prepared g acc into onto (rising u.table risen rows olds) u.grown u.columns
-prepared_again g acc into onto risen rows olds s u p o = record {
-  ready = ready-again g.arena g.marks.now g.moves.now s.table u.table o.ready p.entries;
-  accepting = o.accepting;
-  drawn_into = o.drawn_into;
-  drawn_onto = o.drawn_onto;
+pub prepared_again : (d : Drawn) (risen rows olds : List ℕ) (s u : Growing) {c : ℕ} → AnsweredIn d.game s u c
+    → Prepared d (rising s.table risen rows olds) s.grown s.columns → Prepared d (rising u.table risen rows olds) u.grown u.columns
+prepared_again d risen rows olds s u p o = record {
+  ready = ready-again d.game.arena d.game.marks.now d.game.moves.now s.table u.table o.ready p.entries;
+  faithful = o.faithful;
   spacious = spacious-again p o.spacious;
   roomy = record { risen = o.roomy.risen; rows = o.roomy.rows; olds = o.roomy.olds };
 }

@@ -15,6 +15,7 @@ use Rattle.halves.specs.Half.{low_at, Stirred}
 use Rattle.halves.specs.Rising.{Rising, Roomy, Spacious}
 use Rattle.levels.specs.declared.row.Level.{Level}
 use Rattle.levels.specs.Levels.{Levels, FirstHit}
+use Rattle.duplicators.specs.declared.drawn.Drawn.{Drawn}
 use Rattle.duplicators.specs.declared.seats.Row.{Row}
 
 -- the row of b and q: where Spoiler's entries (b,q,·) begin, and where they do with the bit b that an accepting state makes
@@ -113,11 +114,15 @@ Asks g table w r a e =
     max (at table (number (board g) g.arena.mode (duplicator w.b w.q r a))) e
     ≡ max (at table (number (board g) g.arena.mode (duplicator w.b w.q r a))) (low_at (board g) g.arena.mode table w.b w.q r a)
 
+-- the sets are those of the game
+pub record Faithful (d : Drawn) : Type 0 where
+  pub accepting : Accepting (board d.game) d.acc
+  pub drawn_into : Into (board d.game) d.into.now
+  pub drawn_onto : Onto (board d.game) d.onto.now
+
 -- what the work on all rows asks for: the arena, the accepting states and the moves as sets, room for marks, and what Spoiler's half has left
-pub record Prepared (g : Game) (acc : ℕ) (into onto : List ℕ) (s : Rising) (grown columns : List ℕ) : Type 0 where
-  pub ready : Playable g s.table
-  pub accepting : Accepting (board g) acc
-  pub drawn_into : Into (board g) into
-  pub drawn_onto : Onto (board g) onto
-  pub spacious : Spacious (board g) g.arena.mode grown columns
-  pub roomy : Roomy (board g) g.arena.mode s
+pub record Prepared (d : Drawn) (s : Rising) (grown columns : List ℕ) : Type 0 where
+  pub ready : Playable d.game s.table
+  pub faithful : Faithful d
+  pub spacious : Spacious (board d.game) d.game.arena.mode grown columns
+  pub roomy : Roomy (board d.game) d.game.arena.mode s

@@ -10,8 +10,10 @@ ghost use Rattle.halves.specs.Rising.{Roomy, Spacious, rising};
 ghost use Rattle.duplicators.specs.Growing.{AnsweredIn, growing};
 
 use arena::Game;
+use drawn::{Drawn, Notes};
 use layers::answer_layer;
 
+mod drawn;
 mod ends;
 mod layers;
 mod raising;
@@ -46,11 +48,16 @@ pub fn answer(
     ensures halved { Halved (played game.now) game.now.arena.pairs (length table.old) table.old table.new }
     ensures answered_in { AnsweredIn game.now (growing table.old grown.old columns.old) (growing table.new grown.new columns.new) result }
 {
+    let drawn = Drawn {
+        game: *game,
+        acc,
+        into,
+        onto,
+    };
+    let notes = Notes { risen, rows, olds };
     let mut count = 0;
     for b in 0..arena::layers_of(game.arena.mode) {
-        count += answer_layer(
-            game, acc, into, onto, risen, rows, olds, b, table, grown, columns,
-        );
+        count += answer_layer(&drawn, &notes, b, table, grown, columns);
     }
     count
 }

@@ -5,6 +5,7 @@ use native.Mathlib.Omega.{arith}
 use Rattle.automaton.specs.Board.{Board}
 use Rattle.arena.specs.Game.{board}
 use Rattle.halves.specs.Rising.{rising}
+use Rattle.duplicators.specs.declared.drawn.Drawn.{Drawn}
 use Rattle.duplicators.specs.Growing.{Growing, growing}
 use Rattle.simulation.specs.Position.{layers}
 use Rattle.duplicators.specs.Rows.{Prepared}
@@ -19,11 +20,12 @@ pub answer_layer-count-requires : goal.answer_layer-count-requires
 answer_layer-count-requires c =
     let first : Growing = growing c.args.table.now c.args.grown.now c.args.columns.now in
     let here : Growing = growing c.loop-b.table c.loop-b.grown c.loop-b.columns in
-    let prepared : Prepared c.args.game.now c.args.acc c.args.into.now c.args.onto.now (rising c.args.table.now c.args.risen.now c.args.rows.now c.args.olds.now) c.args.grown.now c.args.columns.now = record { ready = c.requires.ready; accepting = c.requires.accepting; drawn_into = c.requires.into; drawn_onto = c.requires.onto; spacious = c.requires.spacious; roomy = c.requires.roomy } in
+    let drawn : Drawn = record { game = c.args.game.now; acc = c.args.acc; into = c.args.into; onto = c.args.onto } in
+    let prepared : Prepared drawn (rising c.args.table.now c.args.risen.now c.args.rows.now c.args.olds.now) c.args.grown.now c.args.columns.now = record { ready = c.requires.ready; faithful = record { accepting = c.requires.accepting; drawn_into = c.requires.into; drawn_onto = c.requires.onto }; spacious = c.requires.spacious; roomy = c.requires.roomy } in
     let below : c.loop-b.b < layers c.args.game.now.arena.mode = omega (arith, c.loop-b-test.true, c.layers_of-b-end.ensures) in
     let F = c.requires.ready.formed in
     let b = below in
-    record { prepared = prepared_again c.args.game.now c.args.acc c.args.into.now c.args.onto.now c.args.risen.now c.args.rows.now c.args.olds.now first here c.loop-b.invariant.part prepared; b_bound = b; layer_stirred = λ q h. stirred_again c.loop-b.invariant.part F c.args.risen.now c.args.rows.now c.args.olds.now c.loop-b.b q b h (λ r a hr ha. c.requires.all_stirred c.loop-b.b q r a b h hr ha) }
+    record { prepared = prepared_again drawn c.args.risen.now c.args.rows.now c.args.olds.now first here c.loop-b.invariant.part prepared; b_bound = b; layer_stirred = λ q h. stirred_again c.loop-b.invariant.part F c.args.risen.now c.args.rows.now c.args.olds.now c.loop-b.b q b h (λ r a hr ha. c.requires.all_stirred c.loop-b.b q r a b h hr ha) }
 
 pub overflow_add-count : goal.overflow_add-count
 overflow_add-count c = omega (arith, parts-few c.requires.ready.formed c.requires.ready.entries c.loop-b.invariant.part c.answer_layer-count.ensures.answered_in)

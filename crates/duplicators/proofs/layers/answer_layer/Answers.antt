@@ -13,12 +13,12 @@ use Rattle.duplicators.proofs.layers.answer_layer.Goals as goal
 
 pub loop-q-init : goal.loop-q-init
 loop-q-init c =
-    let B : Board = board c.args.game.now in
+    let B : Board = board c.args.drawn.now.game in
     let first : Growing = growing c.args.table.now c.args.grown.now c.args.columns.now in
-    let m = c.args.game.now.arena.mode in
+    let m = c.args.drawn.now.game.arena.mode in
     rw (c.into_iter-q-iterator.ensures.into_iter_gives, c.members-q-items.ensures)
-    (layer-start B m c.args.b first c.args.risen.now c.args.rows.now c.args.olds.now
-    (subst (λ (e : ℕ). Joined (at c.args.rows.now c.args.b) (at c.args.rows.now e) c.join.result) c.eased-eased.ensures c.join.ensures) c.below.ensures c.meet-touched.ensures c.requires.layer_stirred)
+    (layer-start B m c.args.b first c.args.notes.now.risen.now c.args.notes.now.rows.now c.args.notes.now.olds.now
+    (subst (λ (e : ℕ). Joined (at c.args.notes.now.rows.now c.args.b) (at c.args.notes.now.rows.now e) c.join.result) c.eased-eased.ensures c.join.ensures) c.below.ensures c.meet-touched.ensures c.requires.layer_stirred)
 
 pub answer_red-count-requires : goal.answer_red-count-requires
 answer_red-count-requires c =
@@ -27,20 +27,20 @@ answer_red-count-requires c =
     let popped = c.in-Some.ensures.steps.1 in
     let F = c.requires.prepared.ready.formed in
     let q = c.loop-q.invariant.within _ popped.here in
-    record { prepared = prepared_again c.args.game.now c.args.acc c.args.into.now c.args.onto.now c.args.risen.now c.args.rows.now c.args.olds.now first here c.loop-q.invariant.part c.requires.prepared; in_range = (c.requires.b_bound, q); red_stirred = stirred_again c.loop-q.invariant.part F c.args.risen.now c.args.rows.now c.args.olds.now c.args.b _ c.requires.b_bound q (c.requires.layer_stirred _ q) }
+    record { prepared = prepared_again c.args.drawn.now c.args.notes.now.risen.now c.args.notes.now.rows.now c.args.notes.now.olds.now first here c.loop-q.invariant.part c.requires.prepared; in_range = (c.requires.b_bound, q); red_stirred = stirred_again c.loop-q.invariant.part F c.args.notes.now.risen.now c.args.notes.now.rows.now c.args.notes.now.olds.now c.args.b _ c.requires.b_bound q (c.requires.layer_stirred _ q) }
 
 pub overflow_add-count : goal.overflow_add-count
 overflow_add-count c = omega (arith, parts-few c.requires.prepared.ready.formed c.requires.prepared.ready.entries c.loop-q.invariant.part c.answer_red-count.ensures.answered_in)
 
 pub loop-q-preserved : goal.loop-q-preserved
 loop-q-preserved c =
-    let B : Board = board c.args.game.now in
+    let B : Board = board c.args.drawn.now.game in
     let popped = c.in-Some.ensures.steps.1 in
     let o = c.requires.prepared.ready in
-    layer-more B c.args.game.now.arena.mode c.args.b o.formed o.entries c.requires.b_bound popped c.loop-q.invariant c.answer_red-count.ensures.answered_in c.answer_red-count.ensures.row_still
+    layer-more B c.args.drawn.now.game.arena.mode c.args.b o.formed o.entries c.requires.b_bound popped c.loop-q.invariant c.answer_red-count.ensures.answered_in c.answer_red-count.ensures.row_still
 
 pub returns : goal.returns
 returns c =
-    let B : Board = board c.args.game.now in
-    let both = layer-end B c.args.game.now.arena.mode c.args.b c.in-None.ensures.steps.0 c.loop-q.invariant in
+    let B : Board = board c.args.drawn.now.game in
+    let both = layer-end B c.args.drawn.now.game.arena.mode c.args.b c.in-None.ensures.steps.0 c.loop-q.invariant in
     record { answered_in = both.0; layer_still = both.1 }

@@ -5,4 +5,4 @@ use Rattle.duplicators.proofs.Whole.{Layer}
 use Rattle.duplicators.proofs.layers.answer_layer.Given as goal
 
 abbrev pub invariant-loop-q : goal.invariant-loop-q
-invariant-loop-q l = Layer (board l.game) l.game.arena.mode l.b (growing l.initial.table l.initial.grown l.initial.columns) (growing l.table l.grown l.columns) l.q-iterator.left l.count
+invariant-loop-q l = Layer (board l.drawn.game) l.drawn.game.arena.mode l.b (growing l.initial.table l.initial.grown l.initial.columns) (growing l.table l.grown l.columns) l.q-iterator.left l.count
