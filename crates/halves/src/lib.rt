@@ -44,7 +44,7 @@ pub fn draw(game: &Game, into: &mut [u64], onto: &mut [u64])
     ensures onto { Onto (board game.now) onto.new }
 {
     let letters = game.arena.letters;
-    for step in game.moves.chunks_exact(3) {
+    for step in game.moves.as_chunks::<3>().0 {
         let from = wide(step[0]);
         let letter = wide(step[1]);
         let to = wide(step[2]);

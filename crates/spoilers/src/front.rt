@@ -2,8 +2,6 @@
 ghost use Rattle.std.specs.Prelude.{◌≡◌, max};
 ghost use Rattle.spoilers.specs.Front.{Cover, Fresh};
 
-use std::cmp::Ordering;
-
 // The greatest entry pushed so far, and the states that have had it.
 #[derive(Clone, Copy)]
 pub struct Front {
@@ -28,15 +26,13 @@ impl Front {
         ensures greatest { self.new.greatest ≡ max v self.old.greatest }
         ensures had { Cover before self.old.had v self.old.greatest self.new.had }
     {
-        match v.cmp(&self.greatest) {
-            Ordering::Greater => {
-                *self = Front {
-                    greatest: v,
-                    had: before,
-                };
-            }
-            Ordering::Equal => self.had = words::join(self.had, before),
-            Ordering::Less => {}
+        if v > self.greatest {
+            *self = Front {
+                greatest: v,
+                had: before,
+            };
+        } else if v == self.greatest {
+            self.had = words::join(self.had, before);
         }
     }
 }

@@ -25,7 +25,7 @@ impl Rule {
         Gift {
             bump: self.bump,
             plain: v,
-            more: v.saturating_add(1).min(top),
+            more: if v < top { v + 1 } else { top },
         }
     }
 }
