@@ -5,7 +5,7 @@ use mathlib.Core.Logic.{◌≢◌, ◌↔◌}
 use mathlib.Core.List.{[], ◌∷◌}
 use Prim.Native.Nat.{ℕ, ◌≤◌, ◌<◌}
 use Rattle.automaton.specs.declared.Automaton.{Automaton}
-use Rattle.automaton.specs.declared.Named.TheVariants.{Unknown}
+use Rattle.std.proofs.Common.{None}
 use Rattle.automaton.specs.Answer.{valued, first_fault}
 use Rattle.automaton.specs.Board.{board_of}
 use Rattle.automaton.specs.Check.{states_fault, letters_fault, mode_fault}
@@ -18,7 +18,7 @@ use Rattle.arena.specs.Refusals.{job_fault, Proper, sizing, topping}
 use Rattle.arena.proofs.Open.{job_line}
 
 pub positions-accepted : (a : Automaton) (mode : ℕ)
-    → ((sizing a mode).number ≡ 0) ↔ (((0 < a.states) × (a.states ≤ most_states)) × ((0 < a.letters) × (a.letters ≤ most_letters)) × (name_of mode ≢ Unknown))
+    → ((sizing a mode).number ≡ 0) ↔ (((0 < a.states) × (a.states ≤ most_states)) × ((0 < a.letters) × (a.letters ≤ most_letters)) × (name_of mode ≢ None))
 positions-accepted a mode =
     Iff.trans (unless-number (first_fault (states_fault a.states ∷ letters_fault a.letters ∷ mode_fault mode ∷ [])) (valued (positions (board_of a [] []) (mode_of mode))) refl)
     (Iff.trans (table-line (states-line a.states then letters-line a.letters then mode-line mode then end)) (λ h. (h.0, h.1.0, h.1.1.0), λ h. (h.0, (h.1, (h.2, tt)))))

@@ -4,3 +4,4 @@ pub mod Accepted
 pub mod One
 pub mod Seats
 pub mod Begun
+pub mod Games

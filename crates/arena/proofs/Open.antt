@@ -1,16 +1,14 @@
 -- What opening an arena tells: which refusal there is, or that there is none and the arena fits the lent bytes.
 use mathlib.Core.Path.{◌≡◌, refl, sym, ap, ◌∙◌, subst}
 use mathlib.Core.Logic.Iff
-use mathlib.Core.Logic.{◌≢◌}
 use mathlib.Core.List.{List, [], ◌∷◌}
-use Prim.Native.Nat.{ℕ, ◌+◌, ◌*◌, ◌≤◌}
-use native.Mathlib.Omega.{arith}
+use Prim.Native.Nat.{ℕ, ◌≤◌}
+use Rattle.std.proofs.Common.{Some, None, Ok, Err}
 use lib.Dec.{eqb}
 use lib.ListN.{length}
-use borrow.Author.Tests.{eqb-true, eq-eqb, ne_eqb, not-false}
+use borrow.Author.Tests.{eqb-true, eq-eqb, not-false}
 use Rattle.automaton.specs.declared.Mode.{Mode}
 use Rattle.automaton.specs.declared.Mode.TheVariants.{Ordinary, Direct, Delayed, Fair}
-use Rattle.automaton.specs.declared.Named.TheVariants.{Known, Unknown}
 use Rattle.automaton.specs.declared.Refusal.{Refusal}
 use Rattle.automaton.specs.declared.Refusal.TheVariants.{ModeNumber, TableLength}
 use Rattle.automaton.specs.Answer.{Fault, none, fault, first_fault}
@@ -21,39 +19,19 @@ use Rattle.automaton.proofs.Sound.{automaton-line, mode-line}
 use Rattle.simulation.specs.Rules.{ceiling}
 use Rattle.simulation.proofs.Limits.{pairs-most}
 use Rattle.arena.specs.declared.Arena.{Arena}
-use Rattle.arena.specs.declared.Opened.{Opened}
-use Rattle.arena.specs.declared.Opened.TheVariants.{Open, Shut}
 use Rattle.arena.specs.Job.{Job, mode_of, game_of}
 use Rattle.arena.specs.Refusals.{job_fault, length_fault, open_fault, Proper, Fitting}
 use Rattle.arena.specs.Arena.{arena_of, game_in, Ready, opened_by, entered, fitted, opened}
 
 -- ---- reading an opened arena back
 
-is_open : Opened → ℕ
-is_open (Open g) = 1
-is_open (Shut r) = 0
+pub by_open : (f : Fault) (h g : Arena) → opened_by f h ≡ Ok g → (f ≡ none) × (h ≡ g)
+by_open none h g e = (refl, cc)
+by_open (fault r) h g e = cc
 
-open_not_shut : {g : Arena} {r : Refusal} → Open g ≡ Shut r → ⊥
-unfolding is_open
-open_not_shut e = let z : ◌≡◌ {A = ℕ} 1 0 = ap is_open e in omega arith
-
-arena_in : Arena → Opened → Arena
-arena_in d (Open g) = g
-arena_in d (Shut r) = d
-
-refusal_in : Refusal → Opened → Refusal
-refusal_in d (Open g) = d
-refusal_in d (Shut r) = r
-
-pub by_open : (f : Fault) (h g : Arena) → opened_by f h ≡ Open g → (f ≡ none) × (h ≡ g)
-unfolding arena_in
-by_open none h g e = (refl, ap (arena_in h) e)
-by_open (fault r) h g e = absurd (open_not_shut (sym e))
-
-pub by_shut : (f : Fault) (h : Arena) (r : Refusal) → opened_by f h ≡ Shut r → f ≡ fault r
-unfolding refusal_in
-by_shut none h r e = absurd (open_not_shut e)
-by_shut (fault s) h r e = ap fault (ap (refusal_in s) e)
+pub by_shut : (f : Fault) (h : Arena) (r : Refusal) → opened_by f h ≡ Err r → f ≡ fault r
+by_shut none h r e = cc
+by_shut (fault s) h r e = cc
 
 -- ---- refusals 1 to 8
 
@@ -71,28 +49,28 @@ ceiling-moves n k marks ms ns Delayed = refl
 ceiling-moves n k marks ms ns Fair = refl
 
 module _ (j : Job) where
-  pub entered-refused : (r : Refusal) → automaton_fault j.board j.start ≡ fault r → Shut r ≡ entered j
+  pub entered-refused : (r : Refusal) → automaton_fault j.board j.start ≡ fault r → Err r ≡ entered j
   unfolding entered
   entered-refused r e = simp e
 
-  pub entered_unknown : automaton_fault j.board j.start ≡ none → name_of j.mode ≡ Unknown → Shut ModeNumber ≡ entered j
+  pub entered_unknown : automaton_fault j.board j.start ≡ none → name_of j.mode ≡ None → Err ModeNumber ≡ entered j
   unfolding entered
   entered_unknown e d = simp (e, d)
 
-  pub entered-known : (m : Mode) → automaton_fault j.board j.start ≡ none → name_of j.mode ≡ Known m → Open (arena_of j.board m) ≡ entered j
+  pub entered-known : (m : Mode) → automaton_fault j.board j.start ≡ none → name_of j.mode ≡ Some m → Ok (arena_of j.board m) ≡ entered j
   unfolding entered
   entered-known m e d = simp (e, d)
 
-  pub enter_shut : (r : Refusal) → entered j ≡ Shut r → job_fault j ≡ fault r
+  pub enter_shut : (r : Refusal) → entered j ≡ Err r → job_fault j ≡ fault r
   unfolding entered
   enter_shut r e = by_shut (job_fault j) _ r e
 
-  pub enter_open : (g : Arena) → entered j ≡ Open g → (job_fault j ≡ none) × (arena_of j.board (mode_of j.mode) ≡ g)
+  pub enter_open : (g : Arena) → entered j ≡ Ok g → (job_fault j ≡ none) × (arena_of j.board (mode_of j.mode) ≡ g)
   unfolding entered
   enter_open g e = by_open (job_fault j) _ g e
 
   -- an arena that was entered has few positions
-  pub enter_small : (g : Arena) → entered j ≡ Open g → (g.pairs ≤ 8192) × (g.letters ≤ most_letters)
+  pub enter_small : (g : Arena) → entered j ≡ Ok g → (g.pairs ≤ 8192) × (g.letters ≤ most_letters)
   enter_small g e =
       let (n, d) = enter_open g e in
       let F = ((job_line j).0 n).0 in
@@ -106,18 +84,12 @@ size-line P entries = fails-line _ _ TableLength (λ e. eqb-true entries P (not-
 pub open_line : (j : Job) (t : List ℕ) → Line (open_fault j (length t)) (Fitting j t)
 open_line j t = Iff.trans (table-line (job_line j then size-line (game_of j).P (length t) then end)) (λ h. (h.0, h.1.0), λ h. (h.0, (h.1, tt)))
 
-pub fitted_short : (g : Arena) (entries : ℕ) → entries ≢ g.pairs * (1 + g.letters) → Shut TableLength ≡ fitted g entries
-fitted_short g entries n = simp (ne_eqb entries (g.pairs * (1 + g.letters)) n)
-
-pub fitted_open : (g : Arena) (entries : ℕ) → entries ≡ g.pairs * (1 + g.letters) → Open g ≡ fitted g entries
-fitted_open g entries e = simp (eq-eqb entries (g.pairs * (1 + g.letters)) e)
-
 module _ (j : Job) (entries : ℕ) where
-  pub opened_shut : (r : Refusal) → entered j ≡ Shut r → Shut r ≡ opened j entries
+  pub opened_shut : (r : Refusal) → entered j ≡ Err r → Err r ≡ opened j entries
   unfolding opened
   opened_shut r e = simp (enter_shut j r e)
 
-  pub opened-fitted : (g : Arena) → entered j ≡ Open g → fitted g entries ≡ opened j entries
+  pub opened-fitted : (g : Arena) → entered j ≡ Ok g → fitted g entries ≡ opened j entries
   unfolding opened
   opened-fitted g e =
       let (n, d) = enter_open j g e in
@@ -128,11 +100,11 @@ module _ (j : Job) (entries : ℕ) where
 -- ---- what an opened arena is
 
 module _ (j : Job) (t : List ℕ) where
-  pub shut_fault : (r : Refusal) → opened j (length t) ≡ Shut r → open_fault j (length t) ≡ fault r
+  pub shut_fault : (r : Refusal) → opened j (length t) ≡ Err r → open_fault j (length t) ≡ fault r
   unfolding opened
   shut_fault r o = by_shut (open_fault j (length t)) _ r o
 
-  module _ (g : Arena) (o : opened j (length t) ≡ Open g) where
+  module _ (g : Arena) (o : opened j (length t) ≡ Ok g) where
     pub open_is : (open_fault j (length t) ≡ none) × (arena_of j.board (mode_of j.mode) ≡ g)
     unfolding opened
     open_is = by_open (open_fault j (length t)) _ g o

@@ -1,5 +1,5 @@
 pub mod Job
 pub mod Refusals
-pub mod Answers
 pub mod Arena
 pub mod Seats
+pub mod Game

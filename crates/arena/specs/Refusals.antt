@@ -1,7 +1,6 @@
 -- The refusals 1 to 9 that the calls on a table share, and the two numbers of a table: P and T.
-use Rattle.std.specs.Prelude.{◌≡◌, ◌≢◌, not, List, [], ◌∷◌, ℕ, ◌<◌, eqb, length}
+use Rattle.std.specs.Prelude.{◌≡◌, ◌≢◌, not, List, [], ◌∷◌, ℕ, ◌<◌, eqb, length, None}
 use Rattle.automaton.specs.declared.Automaton.{Automaton}
-use Rattle.automaton.specs.declared.Named.TheVariants.{Unknown}
 use Rattle.automaton.specs.declared.Refusal.TheVariants.{TableLength}
 use Rattle.automaton.specs.Answer.{Answer, valued, Fault, fails, first_fault, unless}
 use Rattle.automaton.specs.Effect.{Effect, does}
@@ -31,7 +30,7 @@ opening j entries x e = does (open_fault j entries) x e
 
 -- 1 to 8: a well-formed automaton whose start is one of its states, and the number of a mode
 abbrev pub Proper : Job → Type 0
-Proper j = Formed j.board × (j.start < j.board.n) × (name_of j.mode ≢ Unknown)
+Proper j = Formed j.board × (j.start < j.board.n) × (name_of j.mode ≢ None)
 
 -- 1 to 9: and a table of P entries
 abbrev pub Fitting : Job → (table : List ℕ) → Type 0

@@ -1,10 +1,9 @@
--- The keys of a well-formed board's moves do not fall, and the places where each begins give the stretches of `arrows` and `targets`.
+-- The places where the keys begin give the stretches of `arrows` and `targets`.
 use mathlib.Core.Path.{◌≡◌, refl, sym, ap, ◌∙◌, subst}
-use mathlib.Core.Logic.{inl, inr}
 use mathlib.Core.Bool.{Bool, true, false, ◌&&◌}
 use mathlib.Core.List.{List}
 use Prim.Native.Nat.{ℕ, zero, suc, ◌+◌, ◌*◌, ◌-◌, ◌/◌, ◌%◌, ◌≤◌, ◌<◌}
-use native.Mathlib.Nat.{le_refl, le_trans, suc-mul, mul-le-mul_right, div-lt_iff_lt-mul}
+use native.Mathlib.Nat.{le_refl, le_trans, suc-mul, div-lt_iff_lt-mul}
 use native.Mathlib.Omega.{arith}
 use native.Mathlib.Decide.{dec_le}
 use lib.Arith.{digits_lt, digits_div, digits_mod}
@@ -13,27 +12,14 @@ use lib.ListN.{length, get_or, set}
 use lib.Seq.{get_or-set_same, get_or-set_other}
 use borrow.Author.Count.{below_more}
 use borrow.Author.Tests.{leb-true, leb-false, eqb-true, eq-eqb}
-use Rattle.automaton.specs.Board.{Board, from, letter, Above, Formed}
+use Rattle.automaton.specs.Board.{Board, from, letter, Formed}
 use Rattle.automaton.specs.First.{first}
-use Rattle.automaton.specs.Limits.{most_states, most_letters}
 use Rattle.automaton.proofs.First.{Lowest, first-lowest}
 use Rattle.simulation.proofs.Ranges.{Leaving, Answering}
 use Rattle.asks.specs.Index.{key, Ascending, Indexed}
-use Rattle.asks.proofs.Bounds.{row_within, row-most}
+use Rattle.asks.proofs.Bounds.{row_within}
 
 -- ---- the keys
-
-key_step : (k x y z x' y' z' : ℕ) → y < k → Above x y z x' y' z' → x * k + y ≤ x' * k + y'
-key_step k x y z x' y' z' l (inl h) = omega (arith, mul-le-mul_right k h, suc-mul x k)
-key_step k x y z x' y' z' l (inr (e, inl h)) = rw e (omega arith)
-key_step k x y z x' y' z' l (inr (e, inr (d, h))) = rw (e, d) (le_refl (x' * k + y'))
-
-keys_ascend : (B : Board) → Formed B → Ascending B.k B.moves
-keys_ascend B F i h = key_step B.k _ _ _ _ _ _ (F.inside i (omega arith)).1 (F.order i (omega arith))
-
--- a well-formed board is all that the index asks for: 1,025 places suffice
-pub indexable : (B : Board) → Formed B → ((B.n ≤ most_states) × (B.k ≤ most_letters)) × ((B.n * B.k < 1025) × Ascending B.k B.moves)
-indexable B F = ((F.few, F.few_letters), (omega (arith, row-most B.n B.k F.few F.few_letters B.n (le_refl B.n)), keys_ascend B F))
 
 -- of any two moves, the later has no lesser key
 key_mono : (k : ℕ) (ms : List ℕ) → Ascending k ms → (i j : ℕ) → i ≤ j → j * 3 + 2 < length ms → key k ms i ≤ key k ms j

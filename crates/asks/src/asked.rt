@@ -1,12 +1,14 @@
 // The value that a position asks for: whose turn it is, which steps it has, and what follows from their entries.
-ghost use Rattle.std.specs.Prelude.{◌≡◌, ◌+◌, ◌<◌, length};
+ghost use Rattle.std.specs.Prelude.{◌≡◌, ◌<◌, length};
 ghost use Rattle.games.specs.Game.{asked, at, highest};
-ghost use Rattle.simulation.specs.Position.{duplicator, layers, spoiler};
+ghost use Rattle.simulation.specs.Position.{duplicator, spoiler};
 ghost use Rattle.simulation.specs.Rules.{turn};
-ghost use Rattle.arena.specs.Arena.{board_in, game_in, Ready};
+ghost use Rattle.arena.specs.Game.{board, Playable, played};
 ghost use Rattle.asks.specs.Asked.{asked_of, kind_in, onward};
-ghost use Rattle.asks.specs.Index.{Indexed};
+ghost use Rattle.asks.specs.Pair.{Within};
 
+use super::index::Index;
+use super::pair::Pair;
 use super::scan::{high, low};
 use super::steps::{accepts, duplicator_steps, spoiler_steps};
 use arena::Arena;
@@ -27,151 +29,87 @@ fn turn_at(mode: Mode, b: usize, red: bool, blue: bool) -> Turn
     requires { b < 2 }
     ensures { kind_in result ≡ turn mode b red blue }
 {
-    match mode {
-        Mode::Ordinary => Turn::High,
-        Mode::Direct => {
-            if red && !blue {
-                return Turn::Lost;
-            }
-            Turn::High
-        }
-        Mode::Delayed => {
-            if b == 0 {
-                return Turn::Resetting;
-            }
-            if blue {
-                return Turn::Idle;
-            }
-            Turn::Counting
-        }
-        Mode::Fair => {
-            if blue {
-                return Turn::Resetting;
-            }
-            if red {
-                return Turn::Counting;
-            }
-            Turn::High
-        }
+    match (mode, b, red, blue) {
+        (Mode::Ordinary, ..) => Turn::High,
+        (Mode::Direct, _, true, false) => Turn::Lost,
+        (Mode::Direct, ..) => Turn::High,
+        (Mode::Delayed, 0, ..) => Turn::Resetting,
+        (Mode::Delayed, _, _, false) => Turn::Counting,
+        (Mode::Delayed, _, _, true) => Turn::Idle,
+        (Mode::Fair, _, _, true) => Turn::Resetting,
+        (Mode::Fair, _, true, false) => Turn::Counting,
+        (Mode::Fair, _, false, false) => Turn::High,
     }
 }
 
-// High at Spoiler's (b, q, r).
-fn high_from(
-    g: Arena,
-    marks: &[u8],
-    moves: &[u8],
-    begins: &[usize],
-    table: &[u32],
-    b: usize,
-    q: usize,
-    r: usize,
-) -> u32
-    requires ready { Ready g marks.now moves.now table.now }
-    requires indexed { Indexed g.states g.letters moves.now begins.now }
-    requires b_bound { (b < layers g.mode) × (q < g.states) × (r < g.states) }
-    ensures { result ≡ highest (at table.now) (onward (board_in g marks.now moves.now) g.mode (spoiler b q r)) }
+// High at Spoiler's pair.
+fn high_from(index: &Index, table: &[u32], pair: Pair) -> u32
+    requires ready { Playable index.now.game table.now }
+    requires pair_in_arena { Within index.now.game.arena pair }
+    ensures { result ≡ highest (at table.now) (onward (board index.now.game) index.now.game.arena.mode (spoiler pair.bit pair.red pair.blue)) }
 {
-    let s = spoiler_steps(g, begins, b, q, r);
-    high(s, marks, moves, table)
+    high(spoiler_steps(index, pair), &index.game, table)
 }
 
-// What Spoiler's (b, q, r) asks for.
-fn spoiler_asks(
-    g: Arena,
-    marks: &[u8],
-    moves: &[u8],
-    begins: &[usize],
-    table: &[u32],
-    b: usize,
-    q: usize,
-    r: usize,
-) -> u32
-    requires ready { Ready g marks.now moves.now table.now }
-    requires indexed { Indexed g.states g.letters moves.now begins.now }
-    requires b_bound { (b < layers g.mode) × (q < g.states) × (r < g.states) }
-    ensures { result ≡ asked_of (board_in g marks.now moves.now) g.mode table.now (spoiler b q r) }
+// What Spoiler's pair asks for.
+fn spoiler_asks(index: &Index, table: &[u32], pair: Pair) -> u32
+    requires ready { Playable index.now.game table.now }
+    requires pair_in_arena { Within index.now.game.arena pair }
+    ensures { result ≡ asked_of (board index.now.game) index.now.game.arena.mode table.now (spoiler pair.bit pair.red pair.blue) }
 {
-    let mode = g.mode;
-    let top = g.top;
-    let turn = turn_at(mode, b, accepts(marks, q), accepts(marks, r));
+    let Arena { mode, top, .. } = index.game.arena;
+    let marks = index.game.marks;
+    let turn = turn_at(
+        mode,
+        pair.bit,
+        accepts(marks, pair.red),
+        accepts(marks, pair.blue),
+    );
     match turn {
         Turn::Idle => 0,
         Turn::Lost => top,
-        Turn::High => high_from(g, marks, moves, begins, table, b, q, r),
+        Turn::High => high_from(index, table, pair),
         Turn::Counting => {
-            let h = high_from(g, marks, moves, begins, table, b, q, r);
-            if h < top {
-                return h + 1;
-            }
-            top
+            let h = high_from(index, table, pair);
+            if h < top { h + 1 } else { top }
         }
         Turn::Resetting => {
-            let h = high_from(g, marks, moves, begins, table, b, q, r);
-            if h < top {
-                return 0;
-            }
-            top
+            let h = high_from(index, table, pair);
+            if h < top { 0 } else { top }
         }
     }
 }
 
-// What Duplicator's (b, q, r, a) asks for: Low.
-fn duplicator_asks(
-    g: Arena,
-    marks: &[u8],
-    moves: &[u8],
-    begins: &[usize],
-    table: &[u32],
-    b: usize,
-    q: usize,
-    r: usize,
-    a: usize,
-) -> u32
-    requires ready { Ready g marks.now moves.now table.now }
-    requires indexed { Indexed g.states g.letters moves.now begins.now }
-    requires b_bound { (b < layers g.mode) × (q < g.states) × (r < g.states) × (a < g.letters) }
-    ensures { result ≡ asked_of (board_in g marks.now moves.now) g.mode table.now (duplicator b q r a) }
+// What Duplicator's position of a pair and a letter asks for: Low.
+fn duplicator_asks(index: &Index, table: &[u32], pair: Pair, a: usize) -> u32
+    requires ready { Playable index.now.game table.now }
+    requires pair_in_arena { Within index.now.game.arena pair }
+    requires letter_in_arena { a < index.now.game.arena.letters }
+    ensures { result ≡ asked_of (board index.now.game) index.now.game.arena.mode table.now (duplicator pair.bit pair.red pair.blue a) }
 {
-    let s = duplicator_steps(g, begins, b, q, r, a);
-    low(s, marks, moves, table, g.top)
+    low(duplicator_steps(index, pair, a), &index.game, table)
 }
 
 // What position v asks for.
-pub fn asked(g: Arena, marks: &[u8], moves: &[u8], begins: &[usize], table: &[u32], v: usize) -> u32
-    requires ready { Ready g marks.now moves.now table.now }
-    requires indexed { Indexed g.states g.letters moves.now begins.now }
+pub fn asked(index: &Index, table: &[u32], v: usize) -> u32
+    requires ready { Playable index.now.game table.now }
     requires v_in_bounds { v < length table.now }
-    ensures { result ≡ asked (game_in g marks.now moves.now) (at table.now) v }
+    ensures { result ≡ asked (played index.now.game) (at table.now) v }
 {
-    let states = g.states;
-    let letters = g.letters;
-    let pairs = g.pairs;
+    let Arena {
+        states,
+        letters,
+        pairs,
+        ..
+    } = index.game.arena;
     if v < pairs {
-        let p = v / states;
-        return spoiler_asks(
-            g,
-            marks,
-            moves,
-            begins,
-            table,
-            p / states,
-            p % states,
-            v % states,
-        );
+        return spoiler_asks(index, table, Pair::numbered(states, v));
     }
     let w = v - pairs;
-    let u = w / letters;
-    let p = u / states;
     duplicator_asks(
-        g,
-        marks,
-        moves,
-        begins,
+        index,
         table,
-        p / states,
-        p % states,
-        u % states,
+        Pair::numbered(states, w / letters),
         w % letters,
     )
 }

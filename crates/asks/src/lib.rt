@@ -4,5 +4,6 @@
 
 pub mod asked; // asked.rt: the value that a position asks for
 pub mod index; // index.rt: where the moves of each state and letter begin
+pub mod pair; // pair.rt: a pair's positions by their parts
 mod scan; // scan.rt: High and Low
 mod steps; // steps.rt: the positions one step on

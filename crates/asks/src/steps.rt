@@ -2,10 +2,12 @@
 ghost use Rattle.std.specs.Prelude.{◌≡◌, ◌+◌, ◌*◌, ◌≤◌, ◌<◌, eqb, length, get_or};
 ghost use Rattle.automaton.specs.Board.{to};
 ghost use Rattle.automaton.specs.Limits.{most_letters, most_states};
-ghost use Rattle.simulation.specs.Position.{layers};
+ghost use Rattle.asks.specs.Pair.{Within};
 ghost use Rattle.asks.specs.Steps.{duplicator_steps, spoiler_steps, spot_of};
 
-use arena::Arena;
+use super::index::Index;
+use super::pair::Pair;
+use arena::{Arena, Game};
 use automaton::wide;
 
 // The moves from lo up to hi. One to the state r by the letter a leads to the position base + r · stride + a · step,
@@ -29,65 +31,77 @@ pub fn accepts(marks: &[u8], q: usize) -> bool
 }
 
 // The position that move i leads to. P is at most 139,264, so no sum wraps.
-pub fn spot(s: Steps, marks: &[u8], moves: &[u8], i: usize) -> usize
-    requires i_in_bounds { i * 3 + 2 < length moves.now }
-    requires i_in_bounds_2 { to moves.now i < length marks.now }
-    requires i_bound { spot_of s marks.now moves.now i < 139264 }
-    ensures { result ≡ spot_of s marks.now moves.now i }
+pub fn spot(s: Steps, game: &Game, i: usize) -> usize
+    requires move_in_moves { i * 3 + 2 < length game.now.moves.now }
+    requires goal_in_marks { to game.now.moves.now i < length game.now.marks.now }
+    requires spot_small { spot_of s game.now.marks.now game.now.moves.now i < 139264 }
+    ensures { result ≡ spot_of s game.now.marks.now game.now.moves.now i }
 {
-    let stride = s.stride;
-    let step = s.step;
+    let Steps {
+        plain,
+        marked,
+        stride,
+        step,
+        ..
+    } = s;
     let at = i * 3;
-    let letter = wide(moves[at + 1]);
-    let goal = wide(moves[at + 2]);
-    let mut base = s.plain;
-    if accepts(marks, goal) {
-        base = s.marked;
-    }
+    let letter = wide(game.moves[at + 1]);
+    let goal = wide(game.moves[at + 2]);
+    let base = if accepts(game.marks, goal) {
+        marked
+    } else {
+        plain
+    };
     base + goal * stride + letter * step
 }
 
-// The steps from Spoiler's (b, q, r): the moves from q.
-pub fn spoiler_steps(g: Arena, begins: &[usize], b: usize, q: usize, r: usize) -> Steps
-    requires states_le_most_states { (g.states ≤ most_states) × (g.letters ≤ most_letters) × (g.pairs ≤ 8192) }
-    requires b_bound { (b < layers g.mode) × (q < g.states) × (r < g.states) }
-    requires letters_in_bounds { g.states * g.letters < length begins.now }
-    ensures { result ≡ spoiler_steps g begins.now b q r }
+// The steps from Spoiler's pair: the moves from Red's state.
+pub fn spoiler_steps(index: &Index, pair: Pair) -> Steps
+    requires few { (index.now.game.arena.states ≤ most_states) × (index.now.game.arena.letters ≤ most_letters) × (index.now.game.arena.pairs ≤ 8192) }
+    requires pair_in_arena { Within index.now.game.arena pair }
+    ensures { result ≡ spoiler_steps index.now.game.arena index.now.begins.now pair.bit pair.red pair.blue }
 {
-    let states = g.states;
-    let letters = g.letters;
-    let mode = g.mode;
-    let row = q * letters;
+    let Arena {
+        states,
+        letters,
+        mode,
+        pairs,
+        ..
+    } = index.game.arena;
+    let row = pair.red * letters;
     let square = states * states;
-    let base = g.pairs + r * letters;
+    let base = pairs + pair.blue * letters;
     Steps {
-        lo: begins[row],
-        hi: begins[row + letters],
-        plain: base + b * square * letters,
-        marked: base + arena::pended(mode, b) * square * letters,
+        lo: index.begins[row],
+        hi: index.begins[row + letters],
+        plain: base + pair.bit * square * letters,
+        marked: base + arena::pended(mode, pair.bit) * square * letters,
         stride: states * letters,
         step: 1,
     }
 }
 
-// The steps from Duplicator's (b, q, r, a): the moves from r by a.
-pub fn duplicator_steps(g: Arena, begins: &[usize], b: usize, q: usize, r: usize, a: usize) -> Steps
-    requires states_le_most_states { (g.states ≤ most_states) × (g.letters ≤ most_letters) }
-    requires b_bound { (b < layers g.mode) × (q < g.states) × (r < g.states) × (a < g.letters) }
-    requires letters_in_bounds { g.states * g.letters < length begins.now }
-    ensures { result ≡ duplicator_steps g begins.now b q r a }
+// The steps from Duplicator's position of a pair and a letter: the moves from Blue's state by the letter.
+pub fn duplicator_steps(index: &Index, pair: Pair, a: usize) -> Steps
+    requires few { (index.now.game.arena.states ≤ most_states) × (index.now.game.arena.letters ≤ most_letters) }
+    requires pair_in_arena { Within index.now.game.arena pair }
+    requires letter_in_arena { a < index.now.game.arena.letters }
+    ensures { result ≡ duplicator_steps index.now.game.arena index.now.begins.now pair.bit pair.red pair.blue a }
 {
-    let states = g.states;
-    let letters = g.letters;
-    let mode = g.mode;
-    let key = r * letters + a;
+    let Arena {
+        states,
+        letters,
+        mode,
+        ..
+    } = index.game.arena;
+    let key = pair.blue * letters + a;
     let square = states * states;
-    let base = q * states;
+    let base = pair.red * states;
     Steps {
-        lo: begins[key],
-        hi: begins[key + 1],
-        plain: base + b * square,
-        marked: base + arena::eased(mode, true, b) * square,
+        lo: index.begins[key],
+        hi: index.begins[key + 1],
+        plain: base + pair.bit * square,
+        marked: base + arena::eased(mode, true, pair.bit) * square,
         stride: 1,
         step: 0,
     }

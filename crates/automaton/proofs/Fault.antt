@@ -1,18 +1,11 @@
 -- The laws of a table of refusals: when a line finds no fault, when none does, and what the answer's number tells of it.
-use mathlib.Core.Path.{◌≡◌, refl, sym, ap}
+use Rattle.std.proofs.Common.{◌≡◌, refl, sym, ap, ◌↔◌, Bool, true, false, true≢false, List, [], ◌∷◌, ◌++◌, ℕ, ◌≤◌, ◌<◌, arith, ltb, ltb-false, le-ltb, Some, None}
 use mathlib.Core.Logic.Iff
-use mathlib.Core.Logic.{◌↔◌}
-use mathlib.Core.Bool.{Bool, true, false, true≢false}
-use mathlib.Core.List.{List, [], ◌∷◌, ◌++◌}
-use Prim.Native.Nat.{ℕ, ◌≤◌, ◌<◌}
-use native.Mathlib.Omega.{arith}
-use lib.Dec.{ltb}
-use borrow.Author.Tests.{ltb-false, le-ltb}
 use Rattle.automaton.specs.Answer.{Answer, number_of, Fault, none, fault, fails, fails_at, first_fault, unless}
-use Rattle.automaton.specs.First.{first}
+use Rattle.automaton.specs.First.{first, first_below}
 use Rattle.automaton.specs.declared.Refusal.{Refusal}
 use Rattle.automaton.specs.declared.Refusal.TheVariants.{States, Letters, Marks, Start, Bytes, Outside, Unsorted, ModeNumber, TableLength, AboveCeiling, PositionNumber, NotAtRest, SpoilerPosition, LostPosition, NoMove, OutputLength, WrongMode, LineForm, ProgramLimits, TooLong, Foreign, TooDeep}
-use Rattle.automaton.proofs.First.{first-lowest, first-none}
+use Rattle.automaton.proofs.First.{first-lowest, first-none, first_below-Some, first_below-None}
 
 -- the refusals have numbers from 1 to 24
 pub refusal_numbered : (r : Refusal) → (0 < number_of r) × (number_of r ≤ 24)
@@ -64,6 +57,13 @@ fails_at-line r p P c q = fails-line (ltb (first p 0 c) c) P (r (first p 0 c)) (
       λ e i l. (first-lowest p 0 c).before i (omega arith) (omega (arith, ltb-false (first p 0 c) c e)),
       λ a. le-ltb (first p 0 c) c (omega (arith, (first-none p 0 c).1 λ u l k. a u (omega arith))),
     )
+
+-- what the first thing at fault makes of a line that looks for it
+pub fails_at-first : (r : ℕ → Refusal) (p : ℕ → Bool) (c w : ℕ) → Some w ≡ first_below p c → fails_at r p c ≡ fault (r w)
+fails_at-first r p c w e = let q = first_below-Some p c w e in simp q.1 (ap (λ u. fault (r u)) q.0)
+
+pub fails_at-none : (r : ℕ → Refusal) (p : ℕ → Bool) (c : ℕ) → None ≡ first_below p c → fails_at r p c ≡ none
+fails_at-none r p c e = simp (first_below-None p c e)
 
 -- the lines of a table in their order, none of which finds a fault exactly if all of P holds
 infixr 5 ◌then◌

@@ -1,14 +1,11 @@
--- The laws of `first`: one step on, where it lies, and what is false before it and true at it. And the law of `some`.
-use mathlib.Core.Path.{◌≡◌, refl, sym, ap, ◌∙◌}
-use mathlib.Core.Logic.{◌↔◌}
-use mathlib.Core.Bool.{Bool, true, false, ◌&&◌, ◌||◌, not, cond, true≢false, false≢true}
-use Prim.Native.Nat.{ℕ, zero, suc, ◌+◌, ◌-◌, ◌≤◌, ◌<◌}
+-- The laws of `first`: one step on, where it lies, what is false before it and true at it, and which searches find it. And the law of `some`.
+use Rattle.std.proofs.Common.{◌≡◌, refl, sym, ap, ◌∙◌, ◌↔◌, Bool, true, false, ◌&&◌, ◌||◌, not, cond, true≢false, ℕ, zero, suc, ◌+◌, ◌-◌, ◌≤◌, ◌<◌, add-one, zero-add, arith, eq-eqb, ne_eqb, eqb, ltb, lt-ltb, le-ltb, ltb-false, List, length, get_or, Some, None}
+use Rattle.std.proofs.lemmas.Bool.{false≢true}
+use Rattle.std.specs.Option.{unwrap_or}
+use Rattle.std.specs.List.{find, position, range_with_len}
+use Rattle.std.proofs.lemmas.List.Sums.{position_or_len_is}
 use native.Mathlib.Decide.{ℕ_discrete}
-use native.Mathlib.Numerals.{add-one}
-use native.Mathlib.Omega.{arith}
-use borrow.Author.Tests.{eq-eqb, ne_eqb}
-use lib.Dec.{eqb}
-use Rattle.automaton.specs.First.{first, some}
+use Rattle.automaton.specs.First.{first, first_below, some}
 
 -- w is the first of the c numbers from v on that has p, and v + c if none has
 pub record Lowest (p : ℕ → Bool) (v c w : ℕ) : Type 0 where
@@ -106,3 +103,47 @@ first-same p p' v zero e = refl
 first-same p p' v (suc c) e =
     ap (λ (s : Bool). cond s v (first p (suc v) c)) (e v (omega arith) (omega arith)) ∙
     ap (cond (p' v) v) (first-same p p' (suc v) c (λ i l k. e i (omega arith) (omega arith)))
+
+-- ---- the first below a number, if there is one
+
+pub first_below-Some : (p : ℕ → Bool) (c w : ℕ) → Some w ≡ first_below p c → (first p 0 c ≡ w) × (ltb (first p 0 c) c ≡ true)
+first_below-Some p c w e = go (ltb (first p 0 c) c) refl e
+  where
+    go : (s : Bool) → ltb (first p 0 c) c ≡ s → Some w ≡ cond s (Some (first p 0 c)) None → (first p 0 c ≡ w) × (ltb (first p 0 c) c ≡ true)
+    go true d e = (cc, d)
+    go false d e = cc
+
+pub first_below-None : (p : ℕ → Bool) (c : ℕ) → None ≡ first_below p c → ltb (first p 0 c) c ≡ false
+first_below-None p c e = go (ltb (first p 0 c) c) refl e
+  where
+    go : (s : Bool) → ltb (first p 0 c) c ≡ s → None ≡ cond s (Some (first p 0 c)) None → ltb (first p 0 c) c ≡ false
+    go true d e = cc
+    go false d e = d
+
+-- what `position` finds in a list, and `find` in a stretch of numbers
+pub first_below-position : (test : ℕ → Bool) (xs : List ℕ) → position test xs ≡ first_below (λ i. test (get_or xs i 0)) (length xs)
+first_below-position test xs =
+    let p : ℕ → Bool = λ i. test (get_or xs i 0) in
+    let r = first-lowest p 0 (length xs) in
+    simp (position_or_len_is test xs (first p 0 (length xs)) 0 (omega (arith, r.most)) (λ k l. r.before k (omega arith) l) (λ l. r.here (omega arith)))
+
+first-find : (p : ℕ → Bool) (v c : ℕ) → find p (range_with_len v c) ≡ cond (ltb (first p v c) (v + c)) (Some (first p v c)) None
+unfolding first
+first-find p v zero = let z : ltb v (v + 0) ≡ false = le-ltb v (v + 0) (omega arith) in simp z
+first-find p v (suc c) = go (p v) refl (first-find p (suc v) c)
+  where
+    go : (s : Bool) → p v ≡ s → find p (range_with_len (suc v) c) ≡ cond (ltb (first p (suc v) c) (suc v + c)) (Some (first p (suc v) c)) None
+        → cond s (Some v) (find p (range_with_len (v + 1) c)) ≡ cond (ltb (cond s v (first p (suc v) c)) (v + suc c)) (Some (cond s v (first p (suc v) c))) None
+    go true e r = simp (lt-ltb v (v + suc c) (omega arith))
+    go false e r = let z : v + suc c ≡ suc v + c = omega arith in simp (z, add-one) r
+
+pub first_below-find : (p : ℕ → Bool) (c : ℕ) → find p (range_with_len 0 c) ≡ first_below p c
+first_below-find p c = rw (zero-add c) at (first-find p 0 c)
+
+-- and where `find` is given the end for what it does not find
+pub first-find-or : (p : ℕ → Bool) (v c : ℕ) → unwrap_or (find p (range_with_len v c)) (v + c) ≡ first p v c
+first-find-or p v c = ap (λ o. unwrap_or o (v + c)) (first-find p v c) ∙ go (ltb (first p v c) (v + c)) refl
+  where
+    go : (s : Bool) → ltb (first p v c) (v + c) ≡ s → unwrap_or (cond s (Some (first p v c)) None) (v + c) ≡ first p v c
+    go true d = refl
+    go false d = omega (arith, ltb-false (first p v c) (v + c) d, (first-lowest p v c).most)

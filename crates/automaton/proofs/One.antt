@@ -1,15 +1,8 @@
 -- An answer leaves no choice: a refusal is told by its number and place, and two results of `check` with the same answer are the same.
-use mathlib.Core.Path.{◌≡◌, refl, sym, ap, ◌∙◌}
-use mathlib.Core.Bool.{cond}
-use Prim.Native.Nat.{ℕ}
-use native.Mathlib.Omega.{arith}
-use lib.Dec.{eqb}
-use Rattle.automaton.specs.Answer.{Answer, accepted, refused, number_of, place_of, Fault, none, fault, unless}
-use Rattle.automaton.specs.Check.{answer_of}
+use Rattle.std.proofs.Common.{◌≡◌, refl, sym, ap, ◌∙◌, cond, ℕ, arith, eqb, Result, Ok, Err}
+use Rattle.automaton.specs.Answer.{Answer, accepted, done, answered, refused, number_of, place_of, Fault, none, fault, unless}
 use Rattle.automaton.specs.declared.Refusal.{Refusal}
 use Rattle.automaton.specs.declared.Refusal.TheVariants.{States, Letters, Marks, Start, Bytes, Outside, Unsorted, ModeNumber, TableLength, AboveCeiling, PositionNumber, NotAtRest, SpoilerPosition, LostPosition, NoMove, OutputLength, WrongMode, LineForm, ProgramLimits, TooLong, Foreign, TooDeep}
-use Rattle.automaton.specs.declared.Checked.{Checked}
-use Rattle.automaton.specs.declared.Checked.TheVariants.{Sound, Refused}
 use Rattle.automaton.proofs.Fault.{refusal_numbered, unless-number}
 
 -- the refusal with a given number and place, and any for a number that none has
@@ -78,14 +71,19 @@ unless-accepted : (f : Fault) (a : Answer) → a.number ≡ 0 → accepted ≡ u
 unless-accepted f a z e = (unless-number f a z).0 (sym (ap (λ (x : Answer). x.number) e))
 
 -- the same, from a result that was told apart
-pub checked-none : (f : Fault) (r : Checked) → r ≡ Sound → answer_of r ≡ unless f accepted → f ≡ none
-checked-none f r e a = unless-accepted f accepted refl (sym (ap answer_of e) ∙ a)
+pub checked-none : (f : Fault) (r : Result (Unit {0}) Refusal) {x : Unit {0}} → r ≡ Ok x → answered done r ≡ unless f accepted → f ≡ none
+checked-none f r e a = unless-accepted f accepted refl (sym (ap (answered done) e) ∙ a)
 
-pub checked-fault : (f : Fault) (r : Checked) (x : Refusal) → r ≡ Refused x → answer_of r ≡ unless f accepted → f ≡ fault x
-checked-fault f r x e a = unless-refused f accepted x refl (sym (ap answer_of e) ∙ a)
+pub checked-fault : (f : Fault) (r : Result (Unit {0}) Refusal) (x : Refusal) → r ≡ Err x → answered done r ≡ unless f accepted → f ≡ fault x
+checked-fault f r x e a = unless-refused f accepted x refl (sym (ap (answered done) e) ∙ a)
 
-pub one_result : (r s : Checked) → answer_of r ≡ answer_of s → r ≡ s
-one_result Sound Sound e = refl
-one_result Sound (Refused s) e = absurd (refused-not s accepted refl (sym e))
-one_result (Refused r) Sound e = absurd (refused-not r accepted refl e)
-one_result (Refused r) (Refused s) e = ap Refused (one-refusal r s e)
+-- two results with the same answer are the same, if the values are that are told alike and each value is accepted
+pub one-answered : {T : Type 0} (told : T → Answer) → ((x : T) → (told x).number ≡ 0) → ((x y : T) → told x ≡ told y → x ≡ y)
+    → (r s : Result T Refusal) → answered told r ≡ answered told s → r ≡ s
+one-answered told z one (Ok x) (Ok y) e = ap Ok (one x y e)
+one-answered told z one (Ok x) (Err s) e = absurd (refused-not s (told x) (z x) (sym e))
+one-answered told z one (Err r) (Ok y) e = absurd (refused-not r (told y) (z y) e)
+one-answered told z one (Err r) (Err s) e = ap Err (one-refusal r s e)
+
+pub one_result : (r s : Result (Unit {0}) Refusal) → answered done r ≡ answered done s → r ≡ s
+one_result = one-answered done (λ x. refl) (λ x y e. refl)

@@ -8,13 +8,13 @@ use Prim.Native.Nat.{ℕ, zero, suc, ◌+◌, ◌*◌, ◌/◌, ◌%◌, ◌≤�
 use native.Mathlib.Omega.{arith}
 use lib.Dec.{eqb, ltb, leb}
 use lib.ListN.{length, get_or}
+use Rattle.std.proofs.Common.{Option, Some, None}
 use borrow.Author.Tests.{ltb-true, ltb-false, leb-false, eqb-true, not-false, lt-ltb, le-ltb, lt-leb, eq-eqb, le-leb}
 use Rattle.automaton.specs.Answer.{number_of, Fault, none, fault, fails, fails_at, first_fault, accepted}
 use Rattle.automaton.specs.Board.{Board, Formed, from, letter, to, above, Above, outside, unsorted}
 use Rattle.automaton.specs.Check.{high, states_fault, letters_fault, mode_fault, faults, automaton_fault, checked}
 use Rattle.automaton.specs.Limits.{most_states, most_letters, name_of, is_unknown}
-use Rattle.automaton.specs.declared.Named.{Named}
-use Rattle.automaton.specs.declared.Named.TheVariants.{Known, Unknown}
+use Rattle.automaton.specs.declared.Mode.{Mode}
 use Rattle.automaton.specs.declared.Refusal.TheVariants.{States, Letters, Marks, Start, Bytes, Outside, Unsorted, ModeNumber}
 use Rattle.automaton.proofs.Fault.{Line, always-line, fails-line, fails_at-line, ◌then◌, end, table-line, unless-number, UpTo, fault-to, fails-to, fails_at-to, table_to}
 
@@ -113,11 +113,11 @@ module _ (ms : List ℕ) where
       back a zero h = refl
       back a (suc i) h = (one i).1 (a i (omega arith))
 
-known : (n : Named) → (is_unknown n ≡ false) ↔ (n ≢ Unknown)
-known (Known m) = (λ e d. absurd (true≢false (sym (ap is_unknown d))), λ e. refl)
-known Unknown = (λ e. absurd (true≢false e), λ n. absurd (n refl))
+known : (n : Option Mode) → (is_unknown n ≡ false) ↔ (n ≢ None)
+known (Some m) = (λ e d. absurd (true≢false (sym (ap is_unknown d))), λ e. refl)
+known None = (λ e. absurd (true≢false e), λ n. absurd (n refl))
 
-pub mode-line : (mode : ℕ) → Line (mode_fault mode) (name_of mode ≢ Unknown)
+pub mode-line : (mode : ℕ) → Line (mode_fault mode) (name_of mode ≢ None)
 mode-line mode = fails-line (is_unknown (name_of mode)) _ ModeNumber (known (name_of mode))
 
 -- ---- all of them

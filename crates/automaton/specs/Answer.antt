@@ -1,5 +1,5 @@
 -- What a call answers, in numbers: those of document 01, "Calls" and "Numbers of refusal".
-use Rattle.std.specs.Prelude.{Bool, true, false, List, [], ◌∷◌, ℕ, ltb, get_or}
+use Rattle.std.specs.Prelude.{Bool, true, false, List, [], ◌∷◌, ℕ, ltb, get_or, Result, Ok, Err}
 use Rattle.automaton.specs.First.{first}
 use Rattle.automaton.specs.declared.Refusal.{Refusal}
 use Rattle.automaton.specs.declared.Refusal.TheVariants.{States, Letters, Marks, Start, Bytes, Outside, Unsorted, ModeNumber, TableLength, AboveCeiling, PositionNumber, NotAtRest, SpoilerPosition, LostPosition, NoMove, OutputLength, WrongMode, LineForm, ProgramLimits, TooLong, Foreign, TooDeep}
@@ -78,6 +78,15 @@ place_of (TooDeep at) = at
 -- "Every refused call returns its number, a place and values 0"
 abbrev pub refused : Refusal → Answer
 refused r = record { number = number_of r; place = place_of r; values = 0 ∷ 0 ∷ 0 ∷ [] }
+
+-- the answer of a call that names no value
+abbrev pub done : Unit {0} → Answer
+done x = accepted
+
+-- the answer of a result: that of the value, or the refusal's
+abbrev pub answered : {T : Type 0} → (T → Answer) → Result T Refusal → Answer
+answered told (Ok x) = told x
+answered told (Err r) = refused r
 
 -- ---- deciding a refusal
 

@@ -1,11 +1,9 @@
 -- "Check an automaton": refusals 1 to 7, and 8 beside them, in the words of document 01's table.
 use Rattle.std.specs.Prelude.{Bool, ◌||◌, not, cond, List, [], ◌∷◌, ℕ, ◌/◌, ◌%◌, eqb, ltb, leb, length, get_or}
-use Rattle.automaton.specs.Answer.{Answer, accepted, refused, Fault, fault, fails, fails_at, first_fault, unless}
+use Rattle.automaton.specs.Answer.{Answer, accepted, Fault, fault, fails, fails_at, first_fault, unless}
 use Rattle.automaton.specs.Board.{Board, outside, unsorted}
 use Rattle.automaton.specs.Limits.{most_states, most_letters, name_of, is_unknown}
 use Rattle.automaton.specs.declared.Refusal.TheVariants.{States, Letters, Marks, Start, Bytes, Outside, Unsorted, ModeNumber}
-use Rattle.automaton.specs.declared.Checked.{Checked}
-use Rattle.automaton.specs.declared.Checked.TheVariants.{Sound, Refused}
 
 -- "a mark above 1"
 abbrev pub high : List ℕ → ℕ → Bool
@@ -54,8 +52,3 @@ limited n k = unless (first_fault (states_fault n ∷ letters_fault k ∷ [])) a
 -- what `check` answers, for every input
 unfoldable pub checked : Board → (start : ℕ) → Answer
 checked B start = unless (automaton_fault B start) accepted
-
--- the number, place and values of each case of the code's answer
-abbrev pub answer_of : Checked → Answer
-answer_of Sound = accepted
-answer_of (Refused r) = refused r

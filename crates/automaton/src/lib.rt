@@ -3,11 +3,13 @@
 #![tactic(auto)]
 
 ghost use Rattle.std.specs.Prelude.{◌≡◌, ◌+◌, ◌*◌, ◌/◌, ◌<◌, length};
-ghost use Rattle.automaton.specs.Answer.{number_of, place_of};
+ghost use Rattle.std.specs.Option.{ok_or};
+ghost use Rattle.automaton.specs.Answer.{answered, done, number_of, place_of};
 ghost use Rattle.automaton.specs.Board.{above, board_of, outside, unsorted};
-ghost use Rattle.automaton.specs.Check.{answer_of, checked, high, limited};
-ghost use Rattle.automaton.specs.First.{first};
+ghost use Rattle.automaton.specs.Check.{checked, high, limited};
+ghost use Rattle.automaton.specs.First.{first_below};
 ghost use Rattle.automaton.specs.Limits.{name_of};
+ghost use Rattle.automaton.specs.declared.Refusal.TheVariants.{ModeNumber};
 
 // States 0 to states-1, letters 0 to letters-1, and the start state.
 #[derive(Clone, Copy)]
@@ -32,13 +34,6 @@ pub enum Mode {
     Fair,
 }
 
-// The mode of a number, or that there is none.
-#[derive(Clone, Copy)]
-pub enum Named {
-    Known(Mode),
-    Unknown,
-}
-
 impl Mode {
     pub const ORDINARY: usize = 0;
 
@@ -47,17 +42,21 @@ impl Mode {
     pub const DELAYED: usize = 2;
 
     pub const FAIR: usize = 3;
+}
 
-    // The mode with this number.
-    pub fn named(number: usize) -> Named
-        ensures { result ≡ name_of number }
-    {
+// The mode with this number. Refusal 8.
+impl TryFrom<usize> for Mode {
+    type Error = Refusal;
+
+    ghost try_from_gives = { λ number r. r ≡ ok_or (name_of number) ModeNumber };
+
+    fn try_from(number: usize) -> Result<Mode, Refusal> {
         match number {
-            Mode::ORDINARY => Named::Known(Mode::Ordinary),
-            Mode::DIRECT => Named::Known(Mode::Direct),
-            Mode::DELAYED => Named::Known(Mode::Delayed),
-            Mode::FAIR => Named::Known(Mode::Fair),
-            _ => Named::Unknown,
+            Mode::ORDINARY => Ok(Mode::Ordinary),
+            Mode::DIRECT => Ok(Mode::Direct),
+            Mode::DELAYED => Ok(Mode::Delayed),
+            Mode::FAIR => Ok(Mode::Fair),
+            _ => Err(Refusal::ModeNumber),
         }
     }
 }
@@ -151,98 +150,70 @@ impl Refusal {
     }
 }
 
-// What `limits` and `check` answer.
-#[derive(Clone, Copy)]
-pub enum Checked {
-    Sound,
-    Refused(Refusal),
-}
-
 // Checks the numbers of states and letters alone: refusals 1 and 2.
-pub fn limits(a: Automaton) -> Checked
-    ensures { answer_of result ≡ limited a.states a.letters }
+pub fn limits(a: Automaton) -> Result<(), Refusal>
+    ensures { answered done result ≡ limited a.states a.letters }
 {
-    let states = a.states;
-    let letters = a.letters;
+    let Automaton {
+        states,
+        letters,
+        ..
+    } = a;
     if states < 1 || Automaton::STATES < states {
-        return Checked::Refused(Refusal::States);
+        return Err(Refusal::States);
     }
     if letters < 1 || Automaton::LETTERS < letters {
-        return Checked::Refused(Refusal::Letters);
+        return Err(Refusal::Letters);
     }
-    Checked::Sound
+    Ok(())
 }
 
 // Checks an automaton: refusals 1 to 7, the lowest number that applies.
-pub fn check(a: Automaton, marks: &[u8], moves: &[u8]) -> Checked
-    ensures { answer_of result ≡ checked (board_of a marks.now moves.now) a.start }
+pub fn check(a: Automaton, marks: &[u8], moves: &[u8]) -> Result<(), Refusal>
+    ensures { answered done result ≡ checked (board_of a marks.now moves.now) a.start }
 {
-    let states = a.states;
-    let start = a.start;
-    let limited = limits(a);
-    match limited {
-        Checked::Refused(refusal) => return Checked::Refused(refusal),
-        Checked::Sound => {}
-    }
+    limits(a)?;
+    let Automaton { states, start, .. } = a;
     if marks.len() != states {
-        return Checked::Refused(Refusal::Marks(states));
+        return Err(Refusal::Marks(states));
     }
-    let mark = first_high(marks);
-    if mark < states {
-        return Checked::Refused(Refusal::Marks(mark));
+    if let Some(mark) = first_high(marks) {
+        return Err(Refusal::Marks(mark));
     }
     if states <= start {
-        return Checked::Refused(Refusal::Start);
+        return Err(Refusal::Start);
     }
     if moves.len() % 3 != 0 {
-        return Checked::Refused(Refusal::Bytes);
+        return Err(Refusal::Bytes);
     }
-    let count = moves.len() / 3;
-    let outside = first_outside(a, moves);
-    if outside < count {
-        return Checked::Refused(Refusal::Outside(outside));
+    if let Some(outside) = first_outside(a, moves) {
+        return Err(Refusal::Outside(outside));
     }
-    let unsorted = first_unsorted(moves);
-    if unsorted < count {
-        return Checked::Refused(Refusal::Unsorted(unsorted));
+    if let Some(unsorted) = first_unsorted(moves) {
+        return Err(Refusal::Unsorted(unsorted));
     }
-    Checked::Sound
+    Ok(())
 }
 
 // A byte, wide enough to count and to index with.
 pub fn wide(x: u8) -> usize
     ensures { result ≡ x }
 {
-    x as usize
+    usize::from(x)
 }
 
-// The first mark above 1, and the number of marks if there is none.
-fn first_high(marks: &[u8]) -> usize
-    ensures { result ≡ first (high marks.now) 0 (length marks.now) }
+// The first mark above 1, if there is one.
+fn first_high(marks: &[u8]) -> Option<usize>
+    ensures { result ≡ first_below (high marks.now) (length marks.now) }
 {
-    let mut i = 0;
-    while i < marks.len() {
-        if 1 < marks[i] {
-            return i;
-        }
-        i += 1;
-    }
-    i
+    marks.iter().position(|mark| 1 < *mark)
 }
 
-// The first move with a state or a letter out of range, and the number of moves if there is none.
-fn first_outside(a: Automaton, moves: &[u8]) -> usize
-    ensures { result ≡ first (outside a.states a.letters moves.now) 0 (length moves.now / 3) }
+// The first move with a state or a letter out of range, if there is one.
+fn first_outside(a: Automaton, moves: &[u8]) -> Option<usize>
+    ensures { result ≡ first_below (outside a.states a.letters moves.now) (length moves.now / 3) }
 {
-    let count = moves.len() / 3;
-    let mut i = 0;
-    while i < count {
-        if is_outside(a, moves, i) {
-            return i;
-        }
-        i += 1;
-    }
-    i
+    (0..moves.len() / 3).find(|i| is_outside(a, moves, *i))
 }
 
 // Has move i a state or a letter out of range?
@@ -250,31 +221,17 @@ fn is_outside(a: Automaton, moves: &[u8], i: usize) -> bool
     requires { i * 3 + 2 < length moves.now }
     ensures { result ≡ outside a.states a.letters moves.now i }
 {
-    let states = a.states;
-    let letters = a.letters;
     let at = i * 3;
-    if states <= wide(moves[at]) {
-        return true;
-    }
-    if letters <= wide(moves[at + 1]) {
-        return true;
-    }
-    states <= wide(moves[at + 2])
+    a.states <= wide(moves[at])
+        || a.letters <= wide(moves[at + 1])
+        || a.states <= wide(moves[at + 2])
 }
 
-// The first move not above the one before it, and the number of moves if there is none.
-fn first_unsorted(moves: &[u8]) -> usize
-    ensures { result ≡ first (unsorted moves.now) 0 (length moves.now / 3) }
+// The first move not above the one before it, if there is one.
+fn first_unsorted(moves: &[u8]) -> Option<usize>
+    ensures { result ≡ first_below (unsorted moves.now) (length moves.now / 3) }
 {
-    let count = moves.len() / 3;
-    let mut i = 0;
-    while i < count {
-        if is_unsorted(moves, i) {
-            return i;
-        }
-        i += 1;
-    }
-    i
+    (0..moves.len() / 3).find(|i| is_unsorted(moves, *i))
 }
 
 // Is move i not above the one before it? The first move has none before it.

@@ -1,83 +1,52 @@
 -- Where a token leads: only a token leads on, the place behind it is further on within the text, and a state that is named is one of the body's.
-use mathlib.Core.Path.{◌≡◌, refl, sym, subst}
-use mathlib.Core.Bool.{Bool, true, false, cond, ◌&&◌}
-use mathlib.Core.List.{List}
-use Prim.Native.Nat.{ℕ, ◌≤◌, ◌<◌}
-use native.Mathlib.Omega.{arith}
-use native.Mathlib.Decide.{dec_le}
-use lib.Dec.{eqb, ltb}
-use lib.ListN.{length}
-use borrow.Author.Tests.{ne_eqb, ltb-true}
-use Rattle.tokens.specs.declared.Token.{Token}
-use Rattle.tokens.specs.Sorts as sort
+use Rattle.std.proofs.Common.{◌≡◌, refl, sym, subst, ◌∙◌, Bool, true, false, cond, ◌&&◌, List, ℕ, ◌≤◌, ◌<◌, eqb, ltb, length, get_or, Option, Some, None, arith, ltb-true}
+use Rattle.tokens.specs.declared.Sort.{Sort}
+use Rattle.tokens.specs.declared.Sort.TheVariants as sort
+use Rattle.tokens.specs.Sorts.{stands}
 use Rattle.tokens.specs.Tokens.{token_from}
 use Rattle.tokens.proofs.Reach.{token_on, value-most}
-use Rattle.labels.proofs.Reach.{labelled-on}
+use Rattle.labels.proofs.Reach.{here_on, labelled-on}
+use Rattle.bodies.specs.declared.Entry.{Entry}
 use Rattle.bodies.specs.declared.Due.{Due}
-use Rattle.bodies.specs.declared.Due.TheVariants.{Block, State, Named, Signed, Braces, Zero, Edges, Nothing}
+use Rattle.bodies.specs.declared.Due.TheVariants as due
 use Rattle.bodies.specs.declared.Next.{Next}
-use Rattle.bodies.specs.declared.Next.TheVariants.{To, List as Lists, Mark, Edge as Edged, Done, Nowhere}
-use Rattle.bodies.specs.Body.{Edge, unlisted}
-use Rattle.bodies.specs.Stands.{block_next, edges_next, signed_next, step}
+use Rattle.bodies.specs.declared.Next.TheVariants as next
+use Rattle.bodies.specs.Body.{Edge, unlisted, is_unlisted}
+use Rattle.bodies.specs.Stands.{block_next, edges_next, signed_next, named_next, closed_next, braces_next, step}
 use Rattle.bodies.specs.Walk.{Led, led}
 
 -- ---- the place behind a token
 
 -- there is more to read
 abbrev pub Onward : Next → Type 0
-Onward (To d) = Unit
-Onward (Lists q) = Unit
-Onward (Mark q) = Unit
-Onward (Edged q) = Unit
-Onward Done = ⊥
-Onward Nowhere = ⊥
+Onward next.Done = ⊥
+Onward _ = Unit
 
-module _ (x : Token) (past : sort.end < x.sort) where
-  -- what is past the sorts of tokens is none of them
-  none : (k : ℕ) → k ≤ sort.end → eqb x.sort k ≡ false
-  none k l = ne_eqb x.sort k (λ e. omega arith)
+-- what is no token leads nowhere, but that of the end
+at_wrong : (n : ℕ) (d : Due) (s : List Entry) → step n d s sort.Wrong ≡ None
+at_wrong n due.Block s = refl
+at_wrong n _ s = refl
 
-  block-end : block_next x ≡ Nowhere
-  block-end = simp (none 21 (omega arith), none 24 (omega arith))
+at_nothing : (n : ℕ) (d : Due) (s : List Entry) {m : Next} → step n d s sort.Nothing ≡ Some m → Onward m → ⊥
+at_nothing n due.Nothing s e on = let z : next.Done ≡ _ = cc in subst Onward (sym z) on
+at_nothing n _ s {m} e on = let z : ◌≡◌ {A = Option Next} None (Some m) = e in absurd (cc)
 
-  edges-end : (q : ℕ) → edges_next q x ≡ Nowhere
-  edges-end q = simp (none 12 (omega arith), block-end)
+-- what leads on stands in the text
+step_stands : (n : ℕ) (d : Due) (s : List Entry) (k : Sort) {m : Next} → step n d s k ≡ Some m → Onward m → stands k ≡ true
+step_stands n d s sort.Nothing e on = absurd (at_nothing n d s e on)
+step_stands n d s sort.Wrong {m} e on = let z : ◌≡◌ {A = Option Next} None (Some m) = sym (at_wrong n d s) ∙ e in absurd (cc)
+step_stands n d s _ e on = refl
 
-  signed-end : (q : ℕ) → signed_next q x ≡ Nowhere
-  signed-end q = simp (none 14 (omega arith), edges-end q)
-
-  nowhere : (m : Next) → m ≡ Nowhere → Onward m → ⊥
-  nowhere m e on = subst Onward e on
-
-  stops : (b : Bool) → Onward (cond b Done Nowhere) → ⊥
-  stops true on = on
-  stops false on = on
-
-  step_end : (n : ℕ) (d : Due) (y : ℕ) → Onward (step n d y x) → ⊥
-  step_end n Block y on = subst Onward block-end on
-  step_end n State y on = nowhere (step n State y x) (simp (none 0 (omega arith))) on
-  step_end n (Named q) y on = nowhere (step n (Named q) y x) (simp (none 1 (omega arith), signed-end q)) on
-  step_end n (Signed q) y on = subst Onward (signed-end q) on
-  step_end n (Braces q) y on = nowhere (step n (Braces q) y x) (simp (none 0 (omega arith), none 15 (omega arith))) on
-  step_end n (Zero q) y on = nowhere (step n (Zero q) y x) (simp (none 15 (omega arith))) on
-  step_end n (Edges q) y on = subst Onward (edges-end q) on
-  step_end n Nothing y on = stops (eqb x.sort sort.nothing) on
-
-pub leads-on : (s : List ℕ) (i n : ℕ) (d : Due) (y : ℕ) (m : Next) → i ≤ length s → step n d y (token_from s i) ≡ m → Onward m → (i < (token_from s i).next) × ((token_from s i).next ≤ length s)
-leads-on s i n d y m l e on =
-    let token : (token_from s i).sort ≤ sort.end = go (dec_le (token_from s i).sort sort.end) in
-    token_on s i l (λ q. omega arith) (λ q. omega arith)
-  where
-    go : Dec ((token_from s i).sort ≤ sort.end) → (token_from s i).sort ≤ sort.end
-    go (yes k) = k
-    go (no k) = absurd (step_end (token_from s i) (omega arith) n d y (subst Onward (sym e) on))
+pub leads-on : (text : List ℕ) (i n : ℕ) (d : Due) (s : List Entry) (m : Next) → i ≤ length text → step n d s (token_from text i).sort ≡ Some m → Onward m
+    → (i < (token_from text i).next) × ((token_from text i).next ≤ length text)
+leads-on text i n d s m l e on = token_on text i l (step_stands n d s (token_from text i).sort e on)
 
 -- an edge goes on too
-pub led_on : (s : List ℕ) {n p q i j : ℕ} {e : Edge} → Led (token_from s) n p q i e j → i ≤ length s → (i < j) × (j ≤ length s)
-led_on s (led {g = g} l x r) h =
-    let at = labelled-on s l h in
-    let on = token_on s g at.1 (λ q. omega (arith, x.0.0)) (λ q. omega (arith, x.0.0)) in
-    (omega (arith, x.0.1), omega (arith, x.0.1))
+pub led_on : (text : List ℕ) {n p q i j : ℕ} {e : Edge} → Led (token_from text) n p q i e j → i ≤ length text → (i < j) × (j ≤ length text)
+led_on text (led {g = g} l x r) h =
+    let at = labelled-on text l h in
+    let on = here_on text x refl at.1 in
+    (omega arith, on.1)
 
 -- ---- the states that are named
 
@@ -86,52 +55,82 @@ abbrev pub Known : (n q : ℕ) → Type 0
 Known n q = (q < n) × (q < 65536)
 
 abbrev pub Knows : (n : ℕ) → Due → Type 0
-Knows n Block = Unit
-Knows n State = Unit
-Knows n (Named q) = Known n q
-Knows n (Signed q) = Known n q
-Knows n (Braces q) = Known n q
-Knows n (Zero q) = Known n q
-Knows n (Edges q) = Known n q
-Knows n Nothing = Unit
+Knows n due.Block = Unit
+Knows n due.State = Unit
+Knows n (due.Named q) = Known n q
+Knows n (due.Signed q) = Known n q
+Knows n (due.Braces q) = Known n q
+Knows n (due.Zero q) = Known n q
+Knows n (due.Edges q) = Known n q
+Knows n due.Nothing = Unit
 
 abbrev pub KnowsNext : (n : ℕ) → Next → Type 0
-KnowsNext n (To d) = Knows n d
-KnowsNext n (Lists q) = Known n q
-KnowsNext n (Mark q) = Known n q
-KnowsNext n (Edged q) = Known n q
-KnowsNext n Done = Unit
-KnowsNext n Nowhere = Unit
+KnowsNext n (next.To d) = Knows n d
+KnowsNext n (next.List q) = Known n q
+KnowsNext n (next.Mark q) = Known n q
+KnowsNext n (next.Edge q) = Known n q
+KnowsNext n next.Done = Unit
 
-module _ (n : ℕ) (x : Token) where
-  chosen : (b : Bool) (s t : Next) → KnowsNext n s → KnowsNext n t → KnowsNext n (cond b s t)
-  chosen true s t k l = k
-  chosen false s t k l = l
+abbrev KnowsLed : (n : ℕ) → Option Next → Type 0
+KnowsLed n (Some m) = KnowsNext n m
+KnowsLed n None = Unit
 
-  block_knows : KnowsNext n (block_next x)
-  block_knows = chosen (eqb x.sort sort.state) _ _ tt (chosen (eqb x.sort sort.end) _ _ tt tt)
+module _ (n : ℕ) where
+  chosen : (b : Bool) (m : Next) → KnowsNext n m → KnowsLed n (cond b (Some m) None)
+  chosen true m k = k
+  chosen false m k = tt
 
-  edges_knows : (q : ℕ) → Known n q → KnowsNext n (edges_next q x)
-  edges_knows q k = chosen (eqb x.sort sort.label) _ _ k block_knows
+  block_knows : (k : Sort) → KnowsLed n (block_next k)
+  block_knows sort.State = tt
+  block_knows sort.End = tt
+  block_knows _ = tt
 
-  signed_knows : (q : ℕ) → Known n q → KnowsNext n (signed_next q x)
-  signed_knows q k = chosen (eqb x.sort sort.marks) _ _ k (edges_knows q k)
+  edges_knows : (q : ℕ) (k : Sort) → Known n q → KnowsLed n (edges_next q k)
+  edges_knows q sort.Label h = h
+  edges_knows q k h = block_knows k
 
-  listed_knows : (a b c : Bool) → ltb x.value n ≡ b → x.value < 65536 → KnowsNext n (cond (a && (b && c)) (Lists x.value) Nowhere)
-  listed_knows true true true e l = (ltb-true x.value n e, l)
-  listed_knows true true false e l = tt
-  listed_knows true false c e l = tt
-  listed_knows false b c e l = tt
+  signed_knows : (q : ℕ) (k : Sort) → Known n q → KnowsLed n (signed_next q k)
+  signed_knows q sort.Marks h = h
+  signed_knows q k h = edges_knows q k h
 
-  step_knows : (d : Due) (y : ℕ) → Knows n d → x.value < 65536 → KnowsNext n (step n d y x)
-  step_knows Block y k l = block_knows
-  step_knows State y k l = listed_knows (eqb x.sort sort.number) (ltb x.value n) (eqb y unlisted) refl l
-  step_knows (Named q) y k l = chosen (eqb x.sort sort.quoted) _ _ k (signed_knows q k)
-  step_knows (Signed q) y k l = signed_knows q k
-  step_knows (Braces q) y k l = chosen (eqb x.sort sort.number && eqb x.value 0) _ _ k (chosen (eqb x.sort sort.marks_end) _ _ k tt)
-  step_knows (Zero q) y k l = chosen (eqb x.sort sort.marks_end) _ _ k tt
-  step_knows (Edges q) y k l = edges_knows q k
-  step_knows Nothing y k l = chosen (eqb x.sort sort.nothing) _ _ tt tt
+  named_knows : (q : ℕ) (k : Sort) → Known n q → KnowsLed n (named_next q k)
+  named_knows q sort.Quoted h = h
+  named_knows q k h = signed_knows q k h
 
-pub leads-known : (s : List ℕ) (i n : ℕ) (d : Due) (y : ℕ) (m : Next) → Knows n d → step n d y (token_from s i) ≡ m → KnowsNext n m
-leads-known s i n d y m k e = subst (KnowsNext n) e (step_knows n (token_from s i) d y k (omega (arith, value-most s i)))
+  closed_knows : (q : ℕ) (k : Sort) → Known n q → KnowsLed n (closed_next q k)
+  closed_knows q sort.MarksEnd h = h
+  closed_knows q _ h = tt
+
+  braces_knows : (q : ℕ) (k : Sort) → Known n q → KnowsLed n (braces_next q k)
+  braces_knows q (sort.Number v) h = chosen (eqb v 0) (next.Mark q) h
+  braces_knows q k h = closed_knows q k h
+
+  listed_knows : (q : ℕ) (b c : Bool) → ltb q n ≡ b → q < 65536 → KnowsLed n (cond (b && c) (Some (next.List q)) None)
+  listed_knows q true true e l = (ltb-true q n e, l)
+  listed_knows q true false e l = tt
+  listed_knows q false c e l = tt
+
+  state_knows : (s : List Entry) (k : Sort) → ((v : ℕ) → k ≡ sort.Number v → v < 65536) → KnowsLed n (step n due.State s k)
+  state_knows s (sort.Number q) l = listed_knows q (ltb q n) (is_unlisted (get_or s q unlisted)) refl (l q refl)
+  state_knows s _ l = tt
+
+  over_knows : (s : List Entry) (k : Sort) → KnowsLed n (step n due.Nothing s k)
+  over_knows s sort.Nothing = tt
+  over_knows s _ = tt
+
+  step_knows : (d : Due) (s : List Entry) (k : Sort) → Knows n d → ((v : ℕ) → k ≡ sort.Number v → v < 65536) → KnowsLed n (step n d s k)
+  step_knows due.Block s k h l = block_knows k
+  step_knows due.State s k h l = state_knows s k l
+  step_knows (due.Named q) s k h l = named_knows q k h
+  step_knows (due.Signed q) s k h l = signed_knows q k h
+  step_knows (due.Braces q) s k h l = braces_knows q k h
+  step_knows (due.Zero q) s k h l = closed_knows q k h
+  step_knows (due.Edges q) s k h l = edges_knows q k h
+  step_knows due.Nothing s k h l = over_knows s k
+
+-- a number of a text has an entry on the sheet
+pub number-low : (text : List ℕ) (i v : ℕ) → (token_from text i).sort ≡ sort.Number v → v < 65536
+number-low text i v e = omega (arith, value-most text i e)
+
+pub leads-known : (text : List ℕ) (i n : ℕ) (d : Due) (s : List Entry) (m : Next) → Knows n d → step n d s (token_from text i).sort ≡ Some m → KnowsNext n m
+leads-known text i n d s m k e = subst (KnowsLed n) e (step_knows n d s (token_from text i).sort k (number-low text i))

@@ -1,14 +1,7 @@
 -- The marked triples show one edge more.
-use mathlib.Core.Path.{◌≡◌, refl, sym, ap, ◌∙◌}
-use mathlib.Core.Bool.{Bool, true, false, cond, ◌||◌}
-use mathlib.Core.List.{List, [], ◌∷◌}
-use Prim.Native.Nat.{ℕ, ◌*◌, ◌/◌, ◌%◌, ◌^◌, ◌≤◌, ◌<◌}
-use native.Mathlib.Nat.{mod-lt}
-use native.Mathlib.Omega.{arith}
-use borrow.Author.Tests.{eq-eqb, ne_eqb, lt-ltb, eqb-true, eqb-false}
-use lib.Dec.{eqb}
-use lib.ListN.{get_or, replicate, length-replicate}
-use lib.Pow.{pow_pos, pow_mono}
+use Rattle.std.proofs.Common.{◌≡◌, refl, sym, ap, ◌∙◌, Bool, true, false, cond, ◌||◌, List, [], ◌∷◌, ℕ, ◌*◌, ◌/◌, ◌%◌, ◌^◌, ◌≤◌, ◌<◌, mod-lt, arith, eq-eqb, ne_eqb, lt-ltb, eqb-true, eqb, get_or, replicate, pow_pos, pow_mono}
+use borrow.Author.Tests.{eqb-false}
+use Rattle.std.proofs.Math.ListN.{length-replicate}
 use Rattle.games.proofs.Lift.{cleared_at}
 use Rattle.automaton.specs.Limits.{most_states}
 use Rattle.simulation.specs.Rules.{bit}

@@ -1,8 +1,7 @@
 -- What `edge` answers and leaves: a promise within this crate.
-use Rattle.std.specs.Prelude.{List, ◌∷◌, ℕ, ◌^◌}
+use Rattle.std.specs.Prelude.{List, ◌∷◌, ℕ, ◌^◌, Result, Ok, Err}
 use Rattle.tokens.specs.declared.Token.{Token}
-use Rattle.bodies.specs.declared.Edged.{Edged}
-use Rattle.bodies.specs.declared.Edged.TheVariants.{To, Refused}
+use Rattle.automaton.specs.declared.Refusal.{Refusal}
 use Rattle.bodies.specs.Body.{Edge}
 use Rattle.bodies.specs.Reads.{Shown}
 use Rattle.bodies.specs.Walk.{Led, Astray}
@@ -14,6 +13,6 @@ pub record Added (T : ℕ → Token) (n p q i j : ℕ) (seen after : List ℕ) :
   pub shown : (es : List Edge) → Shown n (2 ^ p) es seen → Shown n (2 ^ p) (edge ∷ es) after
 
 -- an edge that ends at j, or the first token that cannot stand there
-abbrev pub Adds : (T : ℕ → Token) → (n p q i : ℕ) → Edged → (seen after : List ℕ) → Type 0
-Adds T n p q i (To j) seen after = Added T n p q i j seen after
-Adds T n p q i (Refused r) seen after = Astray T n p i r
+abbrev pub Adds : (T : ℕ → Token) → (n p q i : ℕ) → Result ℕ Refusal → (seen after : List ℕ) → Type 0
+Adds T n p q i (Ok j) seen after = Added T n p q i j seen after
+Adds T n p q i (Err r) seen after = Astray T n p i r

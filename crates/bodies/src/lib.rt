@@ -2,18 +2,17 @@
 // A token at a time: `step` tells what each leads to, `read` goes from one to the next.
 #![tactic(auto)]
 
-ghost use Rattle.std.specs.Prelude.{◌≡◌, ◌^◌, ◌≤◌, ◌<◌, length, replicate};
+ghost use Rattle.std.specs.Prelude.{◌≡◌, ℕ, ◌^◌, ◌≤◌, ◌<◌, length, replicate};
 ghost use Rattle.tokens.specs.Tokens.{token_from};
+ghost use Rattle.tokens.specs.declared.Sort.TheVariants.{Number};
 ghost use Rattle.triples.specs.Triples.{most_triples};
 ghost use Rattle.bodies.specs.Body.{blank};
 ghost use Rattle.bodies.specs.Adds.{Adds};
 ghost use Rattle.bodies.specs.Reads.{Reads};
-ghost use Rattle.bodies.specs.Stands.{block_next, braces_next, edges_next, named_next, only as only_of, signed_next, step as step_of};
-ghost use Rattle.bodies.specs.declared.Due.TheVariants.{State};
+ghost use Rattle.bodies.specs.Stands.{step as step_of};
 
 use automaton::{Automaton, Refusal};
-use labels::Lettered;
-use tokens::{Sort, Token};
+use tokens::Sort;
 
 // What is due next.
 #[derive(Clone, Copy)]
@@ -28,7 +27,7 @@ pub enum Due {
     Nothing,
 }
 
-// What a token leads to.
+// What a token leads to that may stand there.
 #[derive(Clone, Copy)]
 pub enum Next {
     To(Due),
@@ -36,27 +35,15 @@ pub enum Next {
     Mark(usize),
     Edge(usize),
     Done,
-    Nowhere,
 }
 
-// What an edge comes to: the place behind it.
-#[derive(Clone, Copy)]
-pub enum Edged {
-    To(usize),
-    Refused(Refusal),
+// What the sheet says of a state: not listed, listed, listed with the mark `{0}`.
+#[derive(Clone, Copy, PartialEq, Eq)]
+pub enum Entry {
+    Unlisted,
+    Listed,
+    Accepting,
 }
-
-// What `read` answers.
-#[derive(Clone, Copy)]
-pub enum Bodied {
-    Held,
-    Refused(Refusal),
-}
-
-// What the sheet says of a state: not listed (0), listed, listed with a mark.
-pub const LISTED: u8 = 1;
-
-pub const ACCEPTING: u8 = 2;
 
 // The numbers that a state can have in a file.
 pub const NUMBERS: usize = 65536;
@@ -67,12 +54,11 @@ pub fn read(
     from: usize,
     states: usize,
     props: usize,
-    letters: usize,
-    sheet: &mut [u8],
+    sheet: &mut [Entry],
     seen: &mut [u8],
-) -> Bodied
+) -> Result<(), Refusal>
     requires from_in_bounds { from ≤ length text.now }
-    requires props_bound { (props ≤ 4) × (letters ≡ 2 ^ props) }
+    requires props_bound { props ≤ 4 }
     requires sheet_value { (sheet.old ≡ blank) × (seen.old ≡ replicate most_triples 0) }
     ensures { Reads (token_from text.now) states props from result sheet.new seen.new }
 {
@@ -80,159 +66,91 @@ pub fn read(
     let mut at = from;
     loop {
         let x = tokens::token_from(text, at);
-        let value = x.value;
-        let next = step(states, due, sheet[value], x);
-        match next {
-            Next::To(d) => {
+        match step(states, due, sheet, x.sort) {
+            Some(Next::To(d)) => {
                 due = d;
                 at = x.next;
             }
-            Next::List(q) => {
-                sheet[q] = LISTED;
+            Some(Next::List(q)) => {
+                sheet[q] = Entry::Listed;
                 due = Due::Named(q);
                 at = x.next;
             }
-            Next::Mark(q) => {
-                sheet[q] = ACCEPTING;
+            Some(Next::Mark(q)) => {
+                sheet[q] = Entry::Accepting;
                 due = Due::Zero(q);
                 at = x.next;
             }
-            Next::Edge(q) => {
-                let edged = edge(text, x.next, states, props, letters, q, seen);
-                match edged {
-                    Edged::To(j) => {
-                        due = Due::Edges(q);
-                        at = j;
-                    }
-                    Edged::Refused(refusal) => {
-                        return Bodied::Refused(refusal);
-                    }
-                }
+            Some(Next::Edge(q)) => {
+                at = edge(text, x.next, states, props, q, seen)?;
+                due = Due::Edges(q);
             }
-            Next::Done => {
-                return Bodied::Held;
-            }
-            Next::Nowhere => {
-                return Bodied::Refused(Refusal::Foreign(x.at));
-            }
+            Some(Next::Done) => return Ok(()),
+            None => return Err(Refusal::Foreign(x.at)),
         }
     }
 }
 
-// Behind the `[` of an edge of q: its label and its target, whose triples are marked.
+// Behind the `[` of an edge of q: its label and its target, whose triples are marked. The place behind the edge.
 fn edge(
     text: &[u8],
     from: usize,
     states: usize,
     props: usize,
-    letters: usize,
     q: usize,
     seen: &mut [u8],
-) -> Edged
+) -> Result<usize, Refusal>
     requires from_in_bounds { from ≤ length text.now }
-    requires props_bound { (props ≤ 4) × (letters ≡ 2 ^ props) }
+    requires props_bound { props ≤ 4 }
     requires q_lt_states { (q < states) × (length seen.old ≡ most_triples) }
     ensures { Adds (token_from text.now) states props q from result seen.old seen.new }
 {
-    let lettered = labels::letters(text, from, props);
-    match lettered {
-        Lettered::Refused(refusal) => Edged::Refused(refusal),
-        Lettered::Letters(set, j) => {
-            let x = tokens::token_from(text, j);
-            let r = x.value;
-            if x.sort != Sort::NUMBER {
-                return Edged::Refused(Refusal::Foreign(x.at));
-            }
+    let label = labels::letters(text, from, props)?;
+    let x = tokens::token_from(text, label.next);
+    match x.sort {
+        Sort::Number(r) => {
             if states <= r {
-                return Edged::Refused(Refusal::Foreign(x.at));
+                return Err(Refusal::Foreign(x.at));
             }
             if states <= Automaton::STATES {
-                triples::note(states, letters, q, set, r, seen);
+                triples::note(states, letters_of(props), q, label.set, r, seen);
             }
-            Edged::To(x.next)
+            Ok(x.next)
         }
+        _ => Err(Refusal::Foreign(x.at)),
     }
 }
 
-// What a token leads to; `entry` is what the sheet has of its value.
-fn step(states: usize, due: Due, entry: u8, x: Token) -> Next
-    ensures { result ≡ step_of states due entry x }
+// So many propositions have so many letters.
+pub fn letters_of(props: usize) -> usize
+    requires { props ≤ 4 }
+    ensures { result ≡ 2 ^ props }
 {
-    match due {
-        Due::Block => block(x),
-        Due::State => state(states, entry, x),
-        Due::Named(q) => named(q, x),
-        Due::Signed(q) => signed(q, x),
-        Due::Braces(q) => braces(q, x),
-        Due::Zero(q) => only(x, Sort::MARKS_END, Next::To(Due::Edges(q))),
-        Due::Edges(q) => edges(q, x),
-        Due::Nothing => only(x, Sort::NOTHING, Next::Done),
-    }
+    1usize << props
 }
 
-// One sort of token and no other.
-fn only(x: Token, sort: u8, next: Next) -> Next
-    ensures { result ≡ only_of x sort next }
+// What a token of a sort leads to.
+fn step(states: usize, due: Due, sheet: &[Entry], sort: Sort) -> Option<Next>
+    requires sheet_len { length sheet.now ≡ 65536 }
+    requires number_has_entry { (v : ℕ) → sort ≡ Number v → v < 65536 }
+    ensures { result ≡ step_of states due sheet.now sort }
 {
-    if x.sort == sort { next } else { Next::Nowhere }
-}
-
-// Where a block may begin, or the body end.
-fn block(x: Token) -> Next
-    ensures { result ≡ block_next x }
-{
-    if x.sort == Sort::STATE {
-        return Next::To(Due::State);
+    match (due, sort) {
+        (Due::State, Sort::Number(q)) if q < states && sheet[q] == Entry::Unlisted => {
+            Some(Next::List(q))
+        }
+        (Due::Named(q), Sort::Quoted) => Some(Next::To(Due::Signed(q))),
+        (Due::Named(q) | Due::Signed(q), Sort::Marks) => Some(Next::To(Due::Braces(q))),
+        (Due::Braces(q), Sort::Number(0)) => Some(Next::Mark(q)),
+        (Due::Braces(q) | Due::Zero(q), Sort::MarksEnd) => Some(Next::To(Due::Edges(q))),
+        (Due::Named(q) | Due::Signed(q) | Due::Edges(q), Sort::Label) => Some(Next::Edge(q)),
+        (Due::Block | Due::Named(_) | Due::Signed(_) | Due::Edges(_), Sort::State) => {
+            Some(Next::To(Due::State))
+        }
+        (Due::Block | Due::Named(_) | Due::Signed(_) | Due::Edges(_), Sort::End) => {
+            Some(Next::To(Due::Nothing))
+        }
+        (Due::Nothing, Sort::Nothing) => Some(Next::Done),
+        _ => None,
     }
-    only(x, Sort::END, Next::To(Due::Nothing))
-}
-
-// The number of a state that is not listed yet.
-fn state(states: usize, entry: u8, x: Token) -> Next
-    ensures { result ≡ step_of states State entry x }
-{
-    if (x.sort == Sort::NUMBER) & ((x.value < states) & (entry == 0)) {
-        return Next::List(x.value);
-    }
-    Next::Nowhere
-}
-
-// Behind a state's number: its name, or what may stand behind that.
-fn named(q: usize, x: Token) -> Next
-    ensures { result ≡ named_next q x }
-{
-    if x.sort == Sort::QUOTED {
-        return Next::To(Due::Signed(q));
-    }
-    signed(q, x)
-}
-
-// Behind a state's name: its marks, or what may stand behind those.
-fn signed(q: usize, x: Token) -> Next
-    ensures { result ≡ signed_next q x }
-{
-    if x.sort == Sort::MARKS {
-        return Next::To(Due::Braces(q));
-    }
-    edges(q, x)
-}
-
-// Inside the braces of a state's marks.
-fn braces(q: usize, x: Token) -> Next
-    ensures { result ≡ braces_next q x }
-{
-    if (x.sort == Sort::NUMBER) & (x.value == 0) {
-        return Next::Mark(q);
-    }
-    only(x, Sort::MARKS_END, Next::To(Due::Edges(q)))
-}
-
-// Where an edge of q may begin, or a block.
-fn edges(q: usize, x: Token) -> Next
-    ensures { result ≡ edges_next q x }
-{
-    if x.sort == Sort::LABEL {
-        return Next::Edge(q);
-    }
-    block(x)
 }

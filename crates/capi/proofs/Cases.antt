@@ -1,5 +1,5 @@
 -- The cases hold of the definitions, by computing them.
-use mathlib.Core.Path.{refl}
+use Rattle.std.proofs.Common.{refl}
 use Rattle.automaton.specs.Check.{checked}
 use Rattle.automaton.specs.First.{first}
 use Rattle.simulation.specs.Cases.{AllHold}

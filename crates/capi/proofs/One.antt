@@ -1,5 +1,5 @@
 -- The promises leave no choice. Each is that of an effect, so one theorem serves them all.
-use mathlib.Core.Path.{◌≡◌, sym, ◌∙◌}
+use Rattle.std.proofs.Common.{◌≡◌, sym, ◌∙◌}
 use Rattle.automaton.specs.Effect.{Effect}
 use Rattle.capi.specs.declared.Answer.{Answer}
 use Rattle.capi.specs.Exported.{given}

@@ -2,7 +2,7 @@
 // numbers; nothing is decided here. `capi_c` exports them.
 #![tactic(auto)]
 
-mod answers; // answers.rt: the answer of each call as numbers
+mod answers; // answers.rt: the answers of the calls in numbers
 
 ghost use Rattle.std.specs.Prelude.{◌≡◌};
 ghost use Rattle.automaton.specs.Board.{board_of};
@@ -11,8 +11,9 @@ ghost use Rattle.arena.specs.Refusals.{sizing, topping};
 ghost use Rattle.table.specs.Calls.{clearing, lifting, resting, settling};
 ghost use Rattle.relation.specs.Calls.{relating, replying};
 ghost use Rattle.quotient.specs.Calls.{buffers, quotienting};
-ghost use Rattle.capi.specs.Exported.{automaton_of, given, job_by};
+ghost use Rattle.capi.specs.Exported.{automaton_of, given, job_by, told};
 
+use arena::Job;
 use automaton::Automaton;
 
 // What every exported function returns, `lucorphane_answer` in the header. Number 0: accepted.
@@ -22,6 +23,18 @@ pub struct Answer {
     pub number: u64,
     pub place: u64,
     pub value: [u64; 3],
+}
+
+impl Answer {
+    fn new(number: usize, place: usize, x: usize, y: usize, z: usize) -> Answer
+        ensures { given result ≡ told number place x y z }
+    {
+        Answer {
+            number: number as u64,
+            place: place as u64,
+            value: [x as u64, y as u64, z as u64],
+        }
+    }
 }
 
 // The automaton's record.
@@ -35,18 +48,30 @@ fn automaton(n: u64, k: u64, start: u64) -> Automaton
     }
 }
 
+// What a call on a table is about.
+fn job<'a>(n: u64, k: u64, start: u64, accept: &'a [u8], moves: &'a [u8], mode: u64) -> Job<'a>
+    ensures { result ≡ job_by n k start accept.now moves.now mode }
+{
+    Job {
+        automaton: automaton(n, k, start),
+        marks: accept,
+        moves,
+        mode: mode as usize,
+    }
+}
+
 // `automaton::check`
 pub fn lucorphane_check(n: u64, k: u64, start: u64, accept: &[u8], moves: &[u8]) -> Answer
     ensures { given result ≡ checked (board_of (automaton_of n k start) accept.now moves.now) start }
 {
-    answers::of_checked(automaton::check(automaton(n, k, start), accept, moves))
+    automaton::check(automaton(n, k, start), accept, moves).into()
 }
 
 // `arena::positions`, which asks for no start
 pub fn lucorphane_positions(n: u64, k: u64, mode: u64) -> Answer
     ensures { given result ≡ sizing (automaton_of n k 0) mode }
 {
-    answers::of_counted(arena::positions(automaton(n, k, 0), mode as usize))
+    arena::positions(automaton(n, k, 0), mode as usize).into()
 }
 
 // `arena::ceiling`
@@ -60,7 +85,7 @@ pub fn lucorphane_ceiling(
 ) -> Answer
     ensures { given result ≡ topping (job_by n k start accept.now moves.now mode) }
 {
-    answers::of_counted(arena::ceiling(automaton(n, k, start), accept, moves, mode as usize))
+    arena::ceiling(&job(n, k, start, accept, moves, mode)).into()
 }
 
 // `table::clear`
@@ -76,7 +101,7 @@ pub fn lucorphane_clear(
     ensures result_value { given result ≡ (clearing (job_by n k start accept.now moves.now mode) table.old).answer }
     ensures table_after { table.new ≡ (clearing (job_by n k start accept.now moves.now mode) table.old).left }
 {
-    answers::of_cleared(table::clear(automaton(n, k, start), accept, moves, mode as usize, table))
+    table::clear(&job(n, k, start, accept, moves, mode), table).into()
 }
 
 // `table::lift`
@@ -93,14 +118,7 @@ pub fn lucorphane_lift(
     ensures result_value { given result ≡ (lifting (job_by n k start accept.now moves.now mode) table.old position).answer }
     ensures table_after { table.new ≡ (lifting (job_by n k start accept.now moves.now mode) table.old position).left }
 {
-    answers::of_lifted(table::lift(
-        automaton(n, k, start),
-        accept,
-        moves,
-        mode as usize,
-        table,
-        position,
-    ))
+    table::lift(&job(n, k, start, accept, moves, mode), table, position).into()
 }
 
 // `table::settle`
@@ -116,7 +134,7 @@ pub fn lucorphane_settle(
     ensures result_value { given result ≡ (settling (job_by n k start accept.now moves.now mode) table.old).answer }
     ensures table_after { table.new ≡ (settling (job_by n k start accept.now moves.now mode) table.old).left }
 {
-    answers::of_settled(table::settle(automaton(n, k, start), accept, moves, mode as usize, table))
+    table::settle(&job(n, k, start, accept, moves, mode), table).into()
 }
 
 // `table::rest`
@@ -131,7 +149,7 @@ pub fn lucorphane_rest(
 ) -> Answer
     ensures { given result ≡ resting (job_by n k start accept.now moves.now mode) table.now }
 {
-    answers::of_rested(table::rest(automaton(n, k, start), accept, moves, mode as usize, table))
+    table::rest(&job(n, k, start, accept, moves, mode), table).into()
 }
 
 // `relation::relation`
@@ -148,14 +166,7 @@ pub fn lucorphane_relation(
     ensures result_value { given result ≡ (relating (job_by n k start accept.now moves.now mode) table.now out.old).answer }
     ensures out_after { out.new ≡ (relating (job_by n k start accept.now moves.now mode) table.now out.old).left }
 {
-    answers::of_related(relation::relation(
-        automaton(n, k, start),
-        accept,
-        moves,
-        mode as usize,
-        table,
-        out,
-    ))
+    relation::relation(&job(n, k, start, accept, moves, mode), table, out).into()
 }
 
 // `relation::reply`
@@ -171,14 +182,7 @@ pub fn lucorphane_reply(
 ) -> Answer
     ensures { given result ≡ replying (job_by n k start accept.now moves.now mode) table.now position }
 {
-    answers::of_replied(relation::reply(
-        automaton(n, k, start),
-        accept,
-        moves,
-        mode as usize,
-        table,
-        position,
-    ))
+    relation::reply(&job(n, k, start, accept, moves, mode), table, position).into()
 }
 
 // `quotient::quotient`
@@ -195,16 +199,8 @@ pub fn lucorphane_quotient(
     classmoves: &mut [u8],
 ) -> Answer
     ensures result_value { given result ≡ (quotienting (job_by n k start accept.now moves.now mode) (buffers table.old classes.old classmarks.old classmoves.old)).answer }
-    ensures classmoves_after { buffers table.new classes.new classmarks.new classmoves.new ≡ (quotienting (job_by n k start accept.now moves.now mode) (buffers table.old classes.old classmarks.old classmoves.old)).left }
+    ensures buffers_after { buffers table.new classes.new classmarks.new classmoves.new ≡ (quotienting (job_by n k start accept.now moves.now mode) (buffers table.old classes.old classmarks.old classmoves.old)).left }
 {
-    answers::of_merged(quotient::quotient(
-        automaton(n, k, start),
-        accept,
-        moves,
-        mode as usize,
-        table,
-        classes,
-        classmarks,
-        classmoves,
-    ))
+    let job = job(n, k, start, accept, moves, mode);
+    quotient::quotient(&job, table, classes, classmarks, classmoves).into()
 }

@@ -157,7 +157,7 @@ pub extern "C" fn lucorphane_quotient(
     classmoves: &mut [u8],
 ) -> Answer
     ensures result_value { given result ≡ (quotienting (job_by n k start accept.now moves.now mode) (buffers table.old classes.old classmarks.old classmoves.old)).answer }
-    ensures classmoves_after { buffers table.new classes.new classmarks.new classmoves.new ≡ (quotienting (job_by n k start accept.now moves.now mode) (buffers table.old classes.old classmarks.old classmoves.old)).left }
+    ensures buffers_after { buffers table.new classes.new classmarks.new classmoves.new ≡ (quotienting (job_by n k start accept.now moves.now mode) (buffers table.old classes.old classmarks.old classmoves.old)).left }
 {
     capi::lucorphane_quotient(
         n, k, start, accept, moves, mode, table, classes, classmarks, classmoves,

@@ -1,8 +1,5 @@
 -- The classes are read off a table in the same way whatever the moves.
-use mathlib.Core.Path.{◌≡◌, ap}
-use mathlib.Core.Bool.{Bool, ◌&&◌}
-use mathlib.Core.List.{List, map}
-use Prim.Native.Nat.{ℕ}
+use Rattle.std.proofs.Common.{◌≡◌, ap, Bool, ◌&&◌, List, map, ℕ}
 use Rattle.games.specs.Play.{count}
 use Rattle.games.specs.Settle.{ascending}
 use Rattle.simulation.specs.Quotient.{leads, class_by, class_count, class_bytes}

@@ -1,13 +1,6 @@
 -- The bytes of the classes hold the classes: what is read from them are the marks and the moves of the quotient.
-use mathlib.Core.Path.{◌≡◌, ap, ◌∙◌}
-use mathlib.Core.Bool.{Bool, ◌&&◌, cond}
-use mathlib.Core.List.{List, [], map}
-use Prim.Native.Nat.{ℕ, ◌+◌, ◌*◌, ◌/◌, ◌≤◌, ◌<◌}
-use native.Mathlib.Nat.{mul-le-mul, zero-add}
-use native.Mathlib.Omega.{arith}
+use Rattle.std.proofs.Common.{◌≡◌, ap, ◌∙◌, Bool, ◌&&◌, cond, List, [], map, ℕ, ◌+◌, ◌*◌, ◌/◌, ◌≤◌, ◌<◌, mul-le-mul, zero-add, arith, eqb, length, get_or}
 use lib.Arith.{digits_lt}
-use lib.Dec.{eqb}
-use lib.ListN.{length, get_or}
 use Rattle.games.specs.Settle.{ascending}
 use Rattle.automaton.specs.declared.Mode.{Mode}
 use Rattle.automaton.specs.Board.{Board, Formed, accepts, from, to}

@@ -14,98 +14,72 @@ pub const BYTES: usize = 3 * TRIPLES;
 pub fn most_states(states: usize) -> usize
     ensures { result ≤ 8 }
 {
-    if states <= STATES {
-        return states;
-    }
-    STATES
+    states.min(STATES)
 }
 
 // Writes the lowest bits of a number, one to a byte.
-pub fn spread(number: usize, out: &mut [u8]) {
+pub fn spread(number: u64, out: &mut [u8]) {
     let mut rest = number;
-    let mut i = 0;
-    while i < out.len() {
-        out[i] = (rest % 2) as u8;
-        rest = rest / 2;
-        i += 1;
+    for byte in out.iter_mut() {
+        *byte = (rest % 2) as u8;
+        rest /= 2;
     }
 }
 
-// The pseudo-random number after this one, which is not 0: shifts and exclusive ors, which cannot wrap.
-pub fn random(seed: u64) -> u64 {
-    let a = seed ^ (seed << 13);
-    let b = a ^ (a >> 7);
-    b ^ (b << 17)
-}
+// A row of pseudo-random numbers, at one of them, which is not 0.
+#[derive(Clone, Copy)]
+pub struct Random(pub u64);
 
-// Writes ones, `share` in 16 of the bytes, and zeros: the number that the row has come to.
-pub fn scatter(seed: u64, share: u64, out: &mut [u8]) -> u64 {
-    let mut drawn = seed;
-    let mut i = 0;
-    while i < out.len() {
-        drawn = random(drawn);
-        let mut byte = 0;
-        if drawn / 65536 % 16 < share {
-            byte = 1;
+impl Random {
+    // Goes on to the next number: shifts and exclusive ors, which cannot wrap.
+    pub fn step(&mut self) -> u64 {
+        let mut number = self.0;
+        number ^= number << 13;
+        number ^= number >> 7;
+        number ^= number << 17;
+        self.0 = number;
+        number
+    }
+
+    // Writes drawn values, by the number drawn, in `share` of 16 places, and zeros in the others.
+    pub fn scatter<T: Copy + Default, F: Fn(u64) -> T>(
+        &mut self,
+        share: u64,
+        out: &mut [T],
+        value: F,
+    )
+        requires { F.IsAlwaysCallable value }
+    {
+        for place in out.iter_mut() {
+            let drawn = self.step();
+            *place = if drawn / 65536 % 16 < share {
+                value(drawn)
+            } else {
+                T::default()
+            };
         }
-        out[i] = byte;
-        i += 1;
     }
-    drawn
 }
 
 // A move, or the place of one among the triples.
 #[derive(Clone, Copy)]
-pub struct Triple {
-    pub from: usize,
-    pub letter: usize,
-    pub to: usize,
+struct Triple {
+    from: usize,
+    letter: usize,
+    to: usize,
 }
 
-// The triple after this one, in ascending order.
-fn after(t: Triple, states: usize, letters: usize) -> Triple
-    requires { (t.from < 256) × (t.letter < 256) × (t.to < 256) }
-    ensures { (result.from ≤ t.from + 1) × (result.letter ≤ t.letter + 1) × (result.to ≤ t.to + 1) }
-{
-    let from = t.from;
-    let letter = t.letter;
-    let to = t.to;
-    if to + 1 < states {
-        return Triple {
-            from: from,
-            letter: letter,
-            to: to + 1,
-        };
+impl Triple {
+    // The triple with a number, in ascending order.
+    fn at(number: usize, states: usize, letters: usize) -> Triple {
+        let states = states.max(1);
+        let letters = letters.max(1);
+        Triple {
+            from: number / states / letters,
+            letter: number / states % letters,
+            to: number % states,
+        }
     }
-    if letter + 1 < letters {
-        return Triple {
-            from: from,
-            letter: letter + 1,
-            to: 0,
-        };
-    }
-    Triple {
-        from: from + 1,
-        letter: 0,
-        to: 0,
-    }
-}
-
-// Writes a move's three bytes, if it is there and there is room: where the next one goes.
-fn put(there: bool, t: Triple, moves: &mut [u8], at: usize) -> usize
-    requires { at ≤ length moves.old }
-    ensures { result ≤ length moves.old }
-{
-    if !there {
-        return at;
-    }
-    if moves.len() - at < 3 {
-        return at;
-    }
-    moves[at] = (t.from % 256) as u8;
-    moves[at + 1] = (t.letter % 256) as u8;
-    moves[at + 2] = (t.to % 256) as u8;
-    at + 3
 }
 
 // Writes the moves whose triples are marked 1, in ascending order and as far as there is room: how many bytes they take.
@@ -113,17 +87,17 @@ pub fn moves_of(states: usize, letters: usize, present: &[u8; TRIPLES], moves: &
     ensures { result ≤ length moves.old }
 {
     let mut bytes = 0;
-    let mut t = Triple {
-        from: 0,
-        letter: 0,
-        to: 0,
-    };
-    let mut x = 0;
-    while x < TRIPLES {
-        let there = present[x] == 1;
-        bytes = put(t.from < states && there, t, moves, bytes);
-        t = after(t, states, letters);
-        x += 1;
+    for (number, mark) in present.iter().enumerate() {
+        if *mark != 1 || moves.len() - bytes < 3 {
+            continue;
+        }
+        let t = Triple::at(number, states, letters);
+        if t.from < states {
+            moves[bytes] = (t.from % 256) as u8;
+            moves[bytes + 1] = (t.letter % 256) as u8;
+            moves[bytes + 2] = (t.to % 256) as u8;
+            bytes += 3;
+        }
     }
     bytes
 }

@@ -1,85 +1,46 @@
 // An automaton as the text that the programs read, so that a case can be run again.
-use automaton::{Automaton, wide};
-use std::io;
+use arena::Job;
+use automaton::Automaton;
+use std::fmt;
 
-// Writes the bytes to standard output.
-pub fn print(rt: &impl Print, bytes: &[u8]) -> io::Result<()> {
-    rt.write_all(bytes)
-}
+// A job: its automaton and its mode.
+#[derive(Clone, Copy)]
+pub struct Shown<'a>(pub &'a Job<'a>);
 
-// Writes a tab and a number.
-pub fn print_number(rt: &impl Print, number: usize) -> io::Result<()> {
-    print!(rt; "\t{number}")
-}
-
-// Writes a line of words and a count.
-pub fn line(rt: &impl Print, words: &[u8], count: u64) -> io::Result<()> {
-    print(rt, words)?;
-    print_number(rt, count as usize)?;
-    print(rt, b"\n")
-}
-
-// An entry, as wide as the numbers that are written.
-fn widened(entry: u32) -> usize {
-    entry as usize
-}
-
-// Writes the entries of a table.
-pub fn show_table(rt: &impl Print, entries: &[u32]) -> io::Result<()> {
-    let mut v = 0;
-    print(rt, b"table")?;
-    while v < entries.len() {
-        print_number(rt, widened(entries[v]))?;
-        v += 1;
-    }
-    print(rt, b"\n")
-}
-
-// Writes a line for each accepting state.
-fn show_marks(rt: &impl Print, marks: &[u8]) -> io::Result<()> {
-    let mut q = 0;
-    while q < marks.len() {
-        if marks[q] == 1 {
-            print(rt, b"accept")?;
-            print_number(rt, q)?;
-            print(rt, b"\n")?;
+impl fmt::Display for Shown<'_> {
+    fn fmt<W: fmt::Write>(&self, f: &mut fmt::Formatter<W>) -> fmt::Result {
+        let job = self.0;
+        let Automaton {
+            states,
+            letters,
+            start,
+        } = job.automaton;
+        let mode = job.mode;
+        writeln!(f, "automaton\t{states}\t{letters}\t{start}\nmode\t{mode}")?;
+        for (q, mark) in job.marks.iter().enumerate() {
+            if *mark == 1 {
+                writeln!(f, "accept\t{q}")?;
+            }
         }
-        q += 1;
+        for triple in job.moves.chunks_exact(3) {
+            if let [from, letter, to] = triple {
+                writeln!(f, "move\t{from}\t{letter}\t{to}")?;
+            }
+        }
+        Ok(())
     }
-    Ok(())
 }
 
-// Writes a line for each move.
-fn show_moves(rt: &impl Print, moves: &[u8]) -> io::Result<()> {
-    let count = moves.len() / 3;
-    let mut i = 0;
-    while i < count {
-        let at = i * 3;
-        print(rt, b"move")?;
-        print_number(rt, wide(moves[at]))?;
-        print_number(rt, wide(moves[at + 1]))?;
-        print_number(rt, wide(moves[at + 2]))?;
-        print(rt, b"\n")?;
-        i += 1;
-    }
-    Ok(())
-}
+// The entries of a table, in a line.
+#[derive(Clone, Copy)]
+pub struct Entries<'a>(pub &'a [u32]);
 
-// Writes the automaton and the mode.
-pub fn show(
-    rt: &impl Print,
-    a: Automaton,
-    marks: &[u8],
-    moves: &[u8],
-    mode: usize,
-) -> io::Result<()> {
-    print(rt, b"automaton")?;
-    print_number(rt, a.states)?;
-    print_number(rt, a.letters)?;
-    print_number(rt, a.start)?;
-    print(rt, b"\nmode")?;
-    print_number(rt, mode)?;
-    print(rt, b"\n")?;
-    show_marks(rt, marks)?;
-    show_moves(rt, moves)
+impl fmt::Display for Entries<'_> {
+    fn fmt<W: fmt::Write>(&self, f: &mut fmt::Formatter<W>) -> fmt::Result {
+        write!(f, "table")?;
+        for entry in self.0 {
+            write!(f, "\t{entry}")?;
+        }
+        writeln!(f)
+    }
 }

@@ -2,23 +2,16 @@
 -- They speak of the calls' promises, which are functions: `limited`, `checked`, `sizing`, `topping`, `clearing`, `lifting`, `resting`, `settling`,
 -- `relating`, `replying`, `quotienting`, `reading` and `reporting` give, for every input, what a call answers and what it leaves in the buffers lent to it. The code is proved to do that.
 -- A job is an automaton, by its board and its start, and the number of a mode.
-use mathlib.Core.Path.{◌≡◌, refl, sym, ap, ◌∙◌}
-use mathlib.Core.Logic.{◌≢◌, ◌↔◌, ◌⊎◌, ⊎_elim}
-use mathlib.Core.Bool.{true, false}
-use mathlib.Core.List.{List}
-use Prim.Native.Nat.{ℕ, ◌+◌, ◌*◌, ◌≤◌, ◌<◌}
-use lib.ListN.{length, get_or}
-use borrow.Author.Tests.{ne_eqb}
+use Rattle.std.proofs.Common.{◌≡◌, ◌≢◌, ◌↔◌, ◌⊎◌, refl, sym, ap, ◌∙◌, ⊎_elim, true, false, None, List, ℕ, ◌+◌, ◌*◌, ◌≤◌, ◌<◌, length, get_or, ne_eqb}
 use Rattle.games.specs.Game.{at}
 use Rattle.games.specs.Lift.{Capped, Covers, AtRest, Least}
 use Rattle.automaton.specs.declared.Mode.TheVariants.{Delayed, Fair}
 use Rattle.automaton.specs.declared.Refusal.{Refusal}
-use Rattle.automaton.specs.declared.Named.TheVariants.{Unknown}
 use Rattle.automaton.specs.declared.Refusal.TheVariants.{ModeNumber, TableLength, WrongMode}
 use Rattle.automaton.specs.declared.Automaton.{Automaton}
-use Rattle.automaton.specs.Answer.{valued, number_of, refused, Fault, none, fault}
+use Rattle.automaton.specs.Answer.{answered, done, valued, number_of, refused, Fault, none, fault}
 use Rattle.automaton.specs.Board.{Board, Formed, accepts}
-use Rattle.automaton.specs.Check.{answer_of, automaton_fault, limited, checked}
+use Rattle.automaton.specs.Check.{automaton_fault, limited, checked}
 use Rattle.automaton.specs.Limits.{most_states, most_letters, name_of}
 use Rattle.simulation.specs.Answers.{below, settled, replies}
 use Rattle.simulation.specs.Cases.{AllHold, merged_cases}
@@ -28,21 +21,18 @@ use Rattle.simulation.specs.Position.{Position, spoiler, duplicator, number, Fit
 use Rattle.simulation.specs.Rules.{ceiling, game}
 use Rattle.simulation.specs.Won.{Choices, Walks, Answered, WonPair}
 use Rattle.arena.specs.Job.{Job, mode_of, game_of}
-use Rattle.arena.specs.Answers.{of_counted}
 use Rattle.arena.specs.Refusals.{job_fault, open_fault, Proper, Fitting, sizing, topping}
-use Rattle.table.specs.Answers.{of_cleared, of_lifted, of_rested, of_settled}
+use Rattle.table.specs.Answers.{found, rose}
 use Rattle.table.specs.Calls.{clearing, lifting, resting, settling}
-use Rattle.relation.specs.Answers.{of_related, of_replied}
 use Rattle.relation.specs.Calls.{relating, replying, Answerable}
 use Rattle.relation.specs.Calls as of-relation
-use Rattle.quotient.specs.Answers.{of_merged}
+use Rattle.quotient.specs.Answers.{merged}
 use Rattle.quotient.specs.Calls.{Buffers, Mergeable, quotienting, written}
 use Rattle.quotient.specs.Calls as of-quotient
 use Rattle.lines.specs.Lines.{lines_of}
 use Rattle.text.specs.Answers.{of_reading}
 use Rattle.text.specs.Calls.{Lent, Roomy, reading}
 use Rattle.text.specs.Text.{mode, board_in, text_fault, Legible}
-use Rattle.report.specs.Answers.{of_reported}
 use Rattle.report.specs.Calls.{longest, reporting}
 use Rattle.printer.specs.Printed.{refusal_text, relation_text}
 use Rattle.report.specs.Report.{job_read, report_of}
@@ -86,84 +76,84 @@ use Rattle.demands.proofs.Lifted as lifting
 pub check-ends : (B : Board) (start : ℕ) → Ends tt (answering (checked B start)) (Formed B × (start < B.n))
 check-ends B start = record { accepted = sound B start; refused = check_refuses B start }
 
-pub check-one : (B : Board) (start : ℕ) → One answer_of (answering (checked B start))
-check-one B start = one answer_of (answering (checked B start)) one_result
+pub check-one : (B : Board) (start : ℕ) → One (answered done) (answering (checked B start))
+check-one B start = one (answered done) (answering (checked B start)) one_result
 
 pub limits-ends : (n k : ℕ) → Ends tt (answering (limited n k)) (((0 < n) × (n ≤ most_states)) × ((0 < k) × (k ≤ most_letters)))
 limits-ends n k = record { accepted = limits-accepted n k; refused = limits_refuses n k }
 
-pub limits-one : (n k : ℕ) → One answer_of (answering (limited n k))
-limits-one n k = one answer_of (answering (limited n k)) one_result
+pub limits-one : (n k : ℕ) → One (answered done) (answering (limited n k))
+limits-one n k = one (answered done) (answering (limited n k)) one_result
 
 pub positions-ends : (a : Automaton) (mode : ℕ)
-    → Ends tt (answering (sizing a mode)) (((0 < a.states) × (a.states ≤ most_states)) × ((0 < a.letters) × (a.letters ≤ most_letters)) × (name_of mode ≢ Unknown))
+    → Ends tt (answering (sizing a mode)) (((0 < a.states) × (a.states ≤ most_states)) × ((0 < a.letters) × (a.letters ≤ most_letters)) × (name_of mode ≢ None))
 positions-ends a mode = record { accepted = positions-accepted a mode; refused = positions_refuses a mode }
 
-pub positions-one : (a : Automaton) (mode : ℕ) → One of_counted (answering (sizing a mode))
-positions-one a mode = one of_counted (answering (sizing a mode)) one-counted
+pub positions-one : (a : Automaton) (mode : ℕ) → One (answered valued) (answering (sizing a mode))
+positions-one a mode = one (answered valued) (answering (sizing a mode)) one-counted
 
 pub ceiling-ends : (j : Job) → Ends tt (answering (topping j)) (Proper j)
 ceiling-ends j = record { accepted = ceiling-accepted j; refused = ceiling_refuses j }
 
-pub ceiling-one : (j : Job) → One of_counted (answering (topping j))
-ceiling-one j = one of_counted (answering (topping j)) one-counted
+pub ceiling-one : (j : Job) → One (answered valued) (answering (topping j))
+ceiling-one j = one (answered valued) (answering (topping j)) one-counted
 
 module _ (j : Job) (t : List ℕ) where
   pub clear-ends : Ends t (clearing j t) (Fitting j t)
   clear-ends = record { accepted = clear-accepted j t; refused = clear-refused j t }
 
-  pub clear-one : One of_cleared (clearing j t)
-  clear-one = one of_cleared (clearing j t) one-cleared
+  pub clear-one : One (answered done) (clearing j t)
+  clear-one = one (answered done) (clearing j t) one-cleared
 
   pub settle-ends : Ends t (settling j t) (Fitting j t)
   settle-ends = record { accepted = settle-accepted j t; refused = settle-refused j t }
 
-  pub settle-one : One of_settled (settling j t)
-  settle-one = one of_settled (settling j t) one-settled
+  pub settle-one : One (answered valued) (settling j t)
+  settle-one = one (answered valued) (settling j t) one-settled
 
   pub lift-ends : (v : ℕ) → Ends t (lifting j t v) (Fitting j t × (Capped (game_of j) t × (v < (game_of j).P)))
   lift-ends v = record { accepted = lift-accepted j t v; refused = lift-refused j t v }
 
-  pub lift-one : (v : ℕ) → One of_lifted (lifting j t v)
-  lift-one v = one of_lifted (lifting j t v) one-lifted
+  pub lift-one : (v : ℕ) → One (answered rose) (lifting j t v)
+  lift-one v = one (answered rose) (lifting j t v) one-lifted
 
   pub rest-ends : Ends tt (answering (resting j t)) (Fitting j t × Capped (game_of j) t)
   rest-ends = record { accepted = rest-accepted j t; refused = rest_refuses j t }
 
-  pub rest-one : One of_rested (answering (resting j t))
-  rest-one = one of_rested (answering (resting j t)) one-rested
+  pub rest-one : One (answered found) (answering (resting j t))
+  rest-one = one (answered found) (answering (resting j t)) one-rested
 
   pub relation-ends : (out : List ℕ) → Ends out (relating j t out) (Proper j × (AtRest (game_of j) t × of-relation.Sized j.board out))
   relation-ends out = record { accepted = relation-accepted j t out; refused = relation-refused j t out }
 
-  pub relation-one : (out : List ℕ) → One of_related (relating j t out)
-  relation-one out = one of_related (relating j t out) one-related
+  pub relation-one : (out : List ℕ) → One (answered valued) (relating j t out)
+  relation-one out = one (answered valued) (relating j t out) one-related
 
   pub reply-ends : (v : ℕ) → Ends tt (answering (replying j t v)) (Answerable j t v)
   reply-ends v = record { accepted = reply-accepted j t v; refused = reply_refuses j t v }
 
-  pub reply-one : (v : ℕ) → One of_replied (answering (replying j t v))
-  reply-one v = one of_replied (answering (replying j t v)) one-replied
+  pub reply-one : (v : ℕ) → One (answered valued) (answering (replying j t v))
+  reply-one v = one (answered valued) (answering (replying j t v)) one-replied
 
 pub quotient-ends : (j : Job) (x : Buffers) → Ends x (quotienting j x) (Fitting j x.table × Mergeable j.mode × of-quotient.Sized j.board x)
 quotient-ends j x = record { accepted = quotient-accepted j x; refused = quotient-refused j x }
 
-pub quotient-one : (j : Job) (x : Buffers) → One of_merged (quotienting j x)
-quotient-one j x = one of_merged (quotienting j x) one_merged
+pub quotient-one : (j : Job) (x : Buffers) → One (answered merged) (quotienting j x)
+quotient-one j x = one (answered merged) (quotienting j x) one_merged
 
 -- `read`: a text that is not legible has one of the program's refusals
 pub read-ends : (text : List ℕ) (x : Lent) → Ends x (reading text x) (Legible text × Roomy text x)
 read-ends text x = record { accepted = read-accepted text x; refused = read-refused text x }
 
-pub read_one : (text : List ℕ) (x : Lent) → One of_reading (reading text x)
-read_one text x = one of_reading (reading text x) one-reading
+pub read_one : (text : List ℕ) (x : Lent) → One (answered of_reading) (reading text x)
+read_one text x = one (answered of_reading) (reading text x) one-reading
 
 -- `report`, of any text at all: it needs room for the longest report
 pub report-ends : (text out : List ℕ) → Ends out (reporting text out) (longest ≤ length out)
 report-ends text out = record { accepted = report-accepted text out; refused = report_refuses text out }
 
-pub report-one : (text out : List ℕ) → One of_reported (reporting text out)
-report-one text out = one of_reported (reporting text out) one_reported
+pub report-one : (text out : List ℕ) → One (answered valued) (reporting text out)
+report-one text out = one (answered valued) (reporting text out) one_reported
 
 -- The refusals 1 to 9 are the same in every call on a table but `quotient`, and 1 to 7 those of `check`.
 pub same-refusal : (j : Job) (t : List ℕ) (r : Refusal) → open_fault j (length t) ≡ fault r
@@ -201,7 +191,7 @@ malformed_refused j t n = go (automaton_fault j.board j.start) refl
     go (fault r) e = (r, automaton-to j.board j.start r e, simp e, simp e, simp e)
 
 -- "an unknown mode"
-pub unknown_refused : (j : Job) (t : List ℕ) → Formed j.board → j.start < j.board.n → name_of j.mode ≡ Unknown
+pub unknown_refused : (j : Job) (t : List ℕ) → Formed j.board → j.start < j.board.n → name_of j.mode ≡ None
     → (job_fault j ≡ fault ModeNumber) × (open_fault j (length t) ≡ fault ModeNumber)
 unknown_refused j t F s e = let sound = (automaton-line j.board j.start).1 (F, s) in (simp (sound, e), simp (sound, e))
 

@@ -1,10 +1,6 @@
 -- Calls that are lent no buffer end properly as well, and results that meet a promise are the same.
-use mathlib.Core.Path.{◌≡◌, refl, sym, ◌∙◌}
+use Rattle.std.proofs.Common.{◌≡◌, refl, sym, ◌∙◌, ◌≢◌, ◌↔◌, List, [], ◌∷◌, ℕ, ◌≤◌, ◌<◌, length}
 use mathlib.Core.Logic.Iff
-use mathlib.Core.Logic.{◌≢◌, ◌↔◌}
-use mathlib.Core.List.{List, [], ◌∷◌}
-use Prim.Native.Nat.{ℕ, ◌≤◌, ◌<◌}
-use lib.ListN.{length}
 use Rattle.games.specs.Game.{at}
 use Rattle.automaton.specs.declared.Mode.{Mode}
 use Rattle.automaton.specs.declared.Refusal.TheVariants.{NotAtRest}

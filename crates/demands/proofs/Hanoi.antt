@@ -1,14 +1,9 @@
 -- Hanoi files, which "other tools" write: what is proved of `hanoi::read` and of the second relation program, each theorem under the words it renders.
 -- Their promises are relations: `Reads` and `Reports` hold of what a call is given, answers and leaves. The code is proved to meet them for every input.
-use mathlib.Core.Path.{◌≡◌, sym, ap, ◌∙◌, subst}
-use mathlib.Core.Logic.{◌≢◌, ◌↔◌}
-use mathlib.Core.Bool.{true}
-use mathlib.Core.List.{List}
-use Prim.Native.Nat.{ℕ, ◌≤◌, ◌<◌}
-use lib.ListN.{length, get_or}
+use Rattle.std.proofs.Common.{Result, ◌≡◌, sym, ap, ◌∙◌, subst, ◌≢◌, ◌↔◌, true, List, ℕ, ◌≤◌, ◌<◌, length, get_or}
 use Rattle.automaton.specs.declared.Mode.TheVariants.{Delayed}
 use Rattle.automaton.specs.declared.Refusal.{Refusal}
-use Rattle.automaton.specs.Answer.{Answer, refused}
+use Rattle.automaton.specs.Answer.{Answer, answered, valued, refused}
 use Rattle.automaton.specs.Board.{Formed}
 use Rattle.simulation.specs.Answers.{below, settled}
 use Rattle.simulation.specs.Moves.{Moves}
@@ -17,8 +12,6 @@ use Rattle.bodies.specs.Body.{accepting}
 use Rattle.text.specs.Calls.{Lent, lent_of, before}
 use Rattle.text.specs.Text as of-text
 use Rattle.printer.specs.Printed.{relation_text}
-use Rattle.report.specs.declared.Reported.{Reported}
-use Rattle.report.specs.Answers.{of_reported}
 use Rattle.report.specs.Calls.{longest}
 use Rattle.report.specs.Report.{job_read, report_of}
 use Rattle.hanoi.specs.declared.Limits.{Limits}
@@ -61,7 +54,7 @@ module _ (file : List ℕ) (b : Limits) (x : Lent) where
     hanoi_place = answer-within R
 
   -- Any two results that meet the promise coincide.
-  pub hanoi_one : (r s : Reading) (l m : Lent) → Reads file b x (of_reading r) l → Reads file b x (of_reading s) m → (r ≡ s) × (l ≡ m)
+  pub hanoi_one : (r s : Result Reading Refusal) (l m : Lent) → Reads file b x (answered of_reading r) l → Reads file b x (answered of_reading s) m → (r ≡ s) × (l ≡ m)
   hanoi_one r s l m p q = let same = reads_one p q in (one-reading r s same.0, same.1)
 
   module _ (f : File) (L : Legible file b f) where
@@ -96,5 +89,5 @@ module _ (file : List ℕ) where
   hanoi_fits l = prints_fit
 
   -- and any two results coincide.
-  pub hanoi_report-one : (out : List ℕ) (r s : Reported) (l m : List ℕ) → Reports file out (of_reported r) l → Reports file out (of_reported s) m → (r ≡ s) × (l ≡ m)
+  pub hanoi_report-one : (out : List ℕ) (r s : Result ℕ Refusal) (l m : List ℕ) → Reports file out (answered valued r) l → Reports file out (answered valued s) m → (r ≡ s) × (l ≡ m)
   hanoi_report-one out r s l m p q = let same = reports_one p q in (one_reported r s same.0, same.1)

@@ -1,8 +1,5 @@
 -- What calls of `lift` after an accepted `clear` do, whatever their order: the lifts of the positions that were due.
-use mathlib.Core.Path.{◌≡◌, sym, ap, ◌∙◌, subst}
-use mathlib.Core.Logic.{◌⊎◌}
-use mathlib.Core.List.{List}
-use Prim.Native.Nat.{ℕ, ◌*◌, ◌≤◌, ◌<◌}
+use Rattle.std.proofs.Common.{◌≡◌, sym, ap, ◌∙◌, subst, ◌⊎◌, List, ℕ, ◌*◌, ◌≤◌, ◌<◌}
 use Rattle.games.specs.Game.{at}
 use Rattle.games.specs.Lift.{cleared, lifts, raises, Covers, AtRest, Least}
 use Rattle.games.proofs.Lift.{cleared-entries, cleared-capped}

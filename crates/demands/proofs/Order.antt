@@ -1,11 +1,6 @@
 -- Calls of `lift` one after another do what the lifts of their positions do: a refused one does nothing.
-use mathlib.Core.Path.{◌≡◌, refl, sym, ap, ◌∙◌, subst}
-use mathlib.Core.List.{List, [], ◌∷◌, ◌++◌}
-use Prim.Native.Nat.{ℕ, ◌<◌}
+use Rattle.std.proofs.Common.{◌≡◌, refl, sym, ap, ◌∙◌, subst, List, [], ◌∷◌, ◌++◌, ℕ, ◌<◌, arith, length, take, take_at, drop_at}
 use native.Mathlib.Decide.{dec_lt}
-use native.Mathlib.Omega.{arith}
-use lib.ListN.{length, take}
-use lib.Seq.{take_at, drop_at}
 use borrow.Rule.Slice.PartMut.{put_same}
 use Rattle.games.specs.Lift.{lift, lifts, rise, raises, Capped}
 use Rattle.games.proofs.Lift.{lift-entries, lift-out, lifts-entries, lifts-capped}

@@ -1,13 +1,8 @@
 -- Demand 2 in the paper's own words: what Demands.antt and Hanoi.antt say of won pairs, said of simulation as document 001 defines it.
 -- `Simulates` (Plays.antt of `plays`) has strategies that remember the whole play, and infinite plays; `WonPair` has one choice a position, and finite walks.
 -- They are the same pairs, so a reader chooses which of the two to read.
-use mathlib.Core.Path.{◌≡◌}
+use Rattle.std.proofs.Common.{◌≡◌, ◌↔◌, true, List, ℕ, ◌+◌, ◌*◌, ◌<◌, get_or}
 use mathlib.Core.Logic.Iff
-use mathlib.Core.Logic.{◌↔◌}
-use mathlib.Core.Bool.{true}
-use mathlib.Core.List.{List}
-use Prim.Native.Nat.{ℕ, ◌+◌, ◌*◌, ◌<◌}
-use lib.ListN.{get_or}
 use Rattle.automaton.specs.declared.Mode.{Mode}
 use Rattle.automaton.specs.declared.Mode.TheVariants.{Delayed}
 use Rattle.automaton.specs.Board.{Board, Formed}

@@ -1,10 +1,5 @@
 -- What demand 2 needs of the calls: the bytes that an accepted `relation` leaves, and that a choice which takes the replies follows them.
-use mathlib.Core.Path.{◌≡◌, sym, ap, subst}
-use mathlib.Core.Logic.{◌↔◌}
-use mathlib.Core.Bool.{true}
-use mathlib.Core.List.{List}
-use Prim.Native.Nat.{ℕ, ◌<◌}
-use borrow.Author.Tests.{ltb-true, lt-ltb}
+use Rattle.std.proofs.Common.{◌≡◌, sym, ap, subst, ◌↔◌, true, List, ℕ, ◌<◌, ltb-true, lt-ltb}
 use Rattle.games.specs.Game.{at}
 use Rattle.games.specs.Lift.{AtRest, Least}
 use Rattle.games.proofs.Settle.{settle-least}

@@ -17,6 +17,7 @@ use Rattle.simulation.proofs.Moves.{move-within}
 use Rattle.halves.specs.Drawn.{Into, Onto}
 use Rattle.halves.specs.Half.{low_at, replied}
 use Rattle.levels.specs.Candidates.{Leads, Found, AllSpared, AllIn}
+use Rattle.levels.specs.declared.row.Level.{Level}
 use Rattle.levels.specs.Levels.{Levels}
 use Rattle.levels.specs.Lows.{LowOf, Within, AllWithin}
 use Rattle.levels.proofs.Peeling.{hit-low}
@@ -77,11 +78,11 @@ module _ (B : Board) (m : Mode) (F : Formed B) (into : List ℕ) (drawn : Into B
         go (inr i) = absurd (empty r (rw none at (all a r ha i)))
 
     -- the levels of the states that are not low
-    pub spared_told : (onto : List ℕ) → Onto B onto → (T every rest : ℕ) → T ≡ ceiling B m → Below B.n every → Minus every low rest → (values members : List ℕ) (count : ℕ)
-        → Levels (at row) rest T values members count → AllWithin B.k B.n left → FoundTold B m t b q onto values members count T left
-    spared_told onto drawn' T every rest top all minus values members count levels within a ha r i e hit =
+    pub spared_told : (onto : List ℕ) → Onto B onto → (T every rest : ℕ) → T ≡ ceiling B m → Below B.n every → Minus every low rest → (levels : List Level)
+        → Levels (at row) rest T levels → AllWithin B.k B.n left → FoundTold B m t b q onto levels T left
+    spared_told onto drawn' T every rest top all minus levels peeled within a ha r i e hit =
         low-at B m F t b q r a hb hq hr ha onto drawn' (at row) same
-        (subst (λ (y : ℕ). LowOf (at row) (at onto (r * B.k + a)) y e) top (hit-low (at row) rest T values members levels steps hit))
+        (subst (λ (y : ℕ). LowOf (at row) (at onto (r * B.k + a)) y e) top (hit-low (at row) rest T levels peeled steps hit))
       where
         hr : r < B.n
         hr = within a ha r i

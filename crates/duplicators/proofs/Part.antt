@@ -178,3 +178,7 @@ module _ {B : Board} {m : Mode} (F : Formed B) {s u w : Growing} {c d : ℕ} (n 
       marked b q r a x (inr j) = inr j
       marked b q r a (inl e) (inl f) = inl (f ∙ e)
       marked b q r a (inr i) (inl f) = inr (o.kept b q r a i)
+
+-- two parts, one after the other, are far below what a machine number holds
+pub parts-few : {B : Board} {m : Mode} {s u w : Growing} {c d : ℕ} → Formed B → length s.table ≡ positions B m → Answered B m s u c → Answered B m u w d → c + d ≤ 278528
+parts-few F n p o = omega (arith, part-few p F n, part-few o F (p.entries ∙ n))

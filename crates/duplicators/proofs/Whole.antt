@@ -14,7 +14,7 @@ use Rattle.automaton.specs.declared.Mode.{Mode}
 use Rattle.automaton.specs.Board.{Board, accepts, Formed}
 use Rattle.simulation.specs.Position.{duplicator, layers, pairs, positions, number}
 use Rattle.simulation.specs.Rules.{eased, game}
-use Rattle.arena.specs.declared.Arena.{Arena}
+use Rattle.arena.specs.declared.game.Game.{Game}
 use Rattle.arena.proofs.Open.{ready-again}
 use Rattle.halves.specs.Half.{low_at, Stirred}
 use Rattle.halves.proofs.Places.{each-duplicator}
@@ -29,10 +29,10 @@ use Rattle.duplicators.proofs.Work.{spacious-again}
 
 -- ---- what the work asks for holds after a part of it
 
-pub prepared_again : (g : Arena) (marks moves : List ℕ) (acc : ℕ) (into onto risen rows olds : List ℕ) (s u : Growing) {c : ℕ} → AnsweredIn g marks moves s u c
-    → Prepared g marks moves acc into onto (rising s.table risen rows olds) s.grown s.columns → Prepared g marks moves acc into onto (rising u.table risen rows olds) u.grown u.columns
-prepared_again g marks moves acc into onto risen rows olds s u p o = record {
-  ready = ready-again g marks moves s.table u.table o.ready p.entries;
+pub prepared_again : (g : Game) (acc : ℕ) (into onto risen rows olds : List ℕ) (s u : Growing) {c : ℕ} → AnsweredIn g s u c
+    → Prepared g acc into onto (rising s.table risen rows olds) s.grown s.columns → Prepared g acc into onto (rising u.table risen rows olds) u.grown u.columns
+prepared_again g acc into onto risen rows olds s u p o = record {
+  ready = ready-again g.arena g.marks.now g.moves.now s.table u.table o.ready p.entries;
   accepting = o.accepting;
   drawn_into = o.drawn_into;
   drawn_onto = o.drawn_onto;

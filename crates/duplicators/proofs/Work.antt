@@ -1,5 +1,5 @@
 -- The work on a row, member by member and letter by letter: what has been raised, and who is at rest so far.
-use mathlib.Core.Path.{◌≡◌, sym, ◌∙◌}
+use mathlib.Core.Path.{◌≡◌}
 use mathlib.Core.Logic.{◌⊎◌, inl, inr}
 use mathlib.Core.List.{List}
 use Prim.Native.Nat.{ℕ, ◌+◌, ◌<◌}
@@ -11,25 +11,25 @@ use Rattle.words.proofs.Sets.{empty, pop_cases, pop_sub}
 use Rattle.automaton.specs.declared.Mode.{Mode}
 use Rattle.automaton.specs.Board.{Board, Formed}
 use Rattle.simulation.specs.Position.{layers, positions}
-use Rattle.arena.specs.declared.Arena.{Arena}
+use Rattle.arena.specs.declared.game.Game.{Game}
 use Rattle.arena.proofs.Open.{ready-again}
 use Rattle.halves.specs.Rising.{Spacious}
 use Rattle.levels.specs.Lows.{Within}
 use Rattle.levels.proofs.Stored.{below_one}
 use Rattle.duplicators.specs.declared.seats.Row.{Row}
 use Rattle.duplicators.specs.Growing.{Growing, Answered, AnsweredIn}
-use Rattle.duplicators.specs.Rows.{Still, LetterStill, Tells, Working}
-use Rattle.duplicators.proofs.Part.{low_same, part_none, part_still, part_join}
+use Rattle.duplicators.specs.Rows.{Still, LetterStill, Working}
+use Rattle.duplicators.proofs.Part.{part_none, part_still, part_join}
 
 -- ---- what the work asks for holds after a part of it
 
 pub spacious-again : {B : Board} {m : Mode} {s u : Growing} {c : ℕ} → Answered B m s u c → Spacious B m s.grown s.columns → Spacious B m u.grown u.columns
 spacious-again p o = record { words = omega (arith, p.words, o.words); sets = omega (arith, p.sets, o.sets) }
 
-pub working_again : (g : Arena) (marks moves : List ℕ) (w : Row) (s u : Growing) {c : ℕ} → AnsweredIn g marks moves s u c
-    → Working g marks moves s.table s.grown s.columns w → Working g marks moves u.table u.grown u.columns w
-working_again g marks moves w s u p o = record {
-  ready = ready-again g marks moves s.table u.table o.ready p.entries;
+pub working_again : (g : Game) (w : Row) (s u : Growing) {c : ℕ} → AnsweredIn g s u c
+    → Working g s.table s.grown s.columns w → Working g u.table u.grown u.columns w
+working_again g w s u p o = record {
+  ready = ready-again g.arena g.marks.now g.moves.now s.table u.table o.ready p.entries;
   spacious = spacious-again p o.spacious;
   rowed = o.rowed;
 }
@@ -86,11 +86,3 @@ module _ (B : Board) (m : Mode) (b q : ℕ) (found : List ℕ) where
     part = part_join F n l.part o;
     rest = below_one (λ i. LetterStill B m w.table b q i (at found i)) a (λ i h r k. part_still o F b q r i hb hq (within i (omega arith) r k) (omega arith) (l.rest i h r k)) still;
   }
-
--- ---- what the levels tell holds after a part of the work
-
-module _ {B : Board} {m : Mode} {s u : Growing} {c : ℕ} (p : Answered B m s u c) (F : Formed B) (b q : ℕ) (hb : b < layers m) (hq : q < B.n) where
-  pub tells-again : (onto values members : List ℕ) (count T r a : ℕ) → r < B.n → a < B.k
-      → Tells B m s.table b q onto values members count T r a → Tells B m u.table b q onto values members count T r a
-  tells-again onto values members count T r a hr ha told e h =
-      told e h ∙ sym (low_same B m F s.table u.table p.others b q r a hb hq hr ha)

@@ -7,8 +7,8 @@ use Rattle.automaton.specs.declared.Mode.{Mode}
 use Rattle.automaton.specs.Board.{Board}
 use Rattle.simulation.specs.Position.{pairs}
 use Rattle.simulation.specs.Rules.{game}
-use Rattle.arena.specs.declared.Arena.{Arena}
-use Rattle.arena.specs.Arena.{board_in}
+use Rattle.arena.specs.declared.game.Game.{Game}
+use Rattle.arena.specs.Game.{board}
 use Rattle.halves.specs.Rising.{Marked, AllMarked}
 
 -- the table, and the marks of what has risen
@@ -41,5 +41,5 @@ abbrev pub growing : (table grown columns : List ℕ) → Growing
 growing table grown columns = record { table = table; grown = grown; columns = columns }
 
 -- the same of an arena and the lent bytes
-abbrev pub AnsweredIn : Arena → (marks moves : List ℕ) → (s u : Growing) → (c : ℕ) → Type 0
-AnsweredIn g marks moves s u c = Answered (board_in g marks moves) g.mode s u c
+abbrev pub AnsweredIn : Game → (s u : Growing) → (c : ℕ) → Type 0
+AnsweredIn g s u c = Answered (board g) g.arena.mode s u c

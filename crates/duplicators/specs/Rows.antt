@@ -8,11 +8,12 @@ use Rattle.automaton.specs.Board.{Board}
 use Rattle.simulation.specs.Moves.{Moves}
 use Rattle.simulation.specs.Position.{duplicator, layers, number}
 use Rattle.simulation.specs.Rules.{eased}
-use Rattle.arena.specs.declared.Arena.{Arena}
-use Rattle.arena.specs.Arena.{board_in, Ready}
+use Rattle.arena.specs.declared.game.Game.{Game}
+use Rattle.arena.specs.Game.{board, Playable}
 use Rattle.halves.specs.Drawn.{Accepting, Into, Onto}
 use Rattle.halves.specs.Half.{low_at, Stirred}
 use Rattle.halves.specs.Rising.{Rising, Roomy, Spacious}
+use Rattle.levels.specs.declared.row.Level.{Level}
 use Rattle.levels.specs.Levels.{Levels, FirstHit}
 use Rattle.duplicators.specs.declared.seats.Row.{Row}
 
@@ -75,19 +76,19 @@ abbrev pub FoundStill : Board → Mode → (t : List ℕ) → (b q k : ℕ) → 
 FoundStill B m t b q k found = (a : ℕ) → a < k → LetterStill B m t b q a (at found a)
 
 -- the levels tell what (b,q,r,a) asks for; what each of a letter's candidates does; and what those of each letter do
-abbrev pub Tells : Board → Mode → (t : List ℕ) → (b q : ℕ) → (onto values members : List ℕ) → (count T r a : ℕ) → Type 0
-Tells B m t b q onto values members count T r a = (e : ℕ) → FirstHit values members count (at onto (r * B.k + a)) T e → e ≡ low_at B m t b q r a
+abbrev pub Tells : Board → Mode → (t : List ℕ) → (b q : ℕ) → (onto : List ℕ) → (levels : List Level) → (T r a : ℕ) → Type 0
+Tells B m t b q onto levels T r a = (e : ℕ) → FirstHit levels (at onto (r * B.k + a)) T e → e ≡ low_at B m t b q r a
 
-abbrev pub LetterTold : Board → Mode → (t : List ℕ) → (b q : ℕ) → (onto values members : List ℕ) → (count T a candidates : ℕ) → Type 0
-LetterTold B m t b q onto values members count T a candidates = (r : ℕ) → In r candidates → Tells B m t b q onto values members count T r a
+abbrev pub LetterTold : Board → Mode → (t : List ℕ) → (b q : ℕ) → (onto : List ℕ) → (levels : List Level) → (T a candidates : ℕ) → Type 0
+LetterTold B m t b q onto levels T a candidates = (r : ℕ) → In r candidates → Tells B m t b q onto levels T r a
 
-abbrev pub FoundTold : Board → Mode → (t : List ℕ) → (b q : ℕ) → (onto values members : List ℕ) → (count T : ℕ) → (found : List ℕ) → Type 0
-FoundTold B m t b q onto values members count T found = (a : ℕ) → a < B.k → LetterTold B m t b q onto values members count T a (at found a)
+abbrev pub FoundTold : Board → Mode → (t : List ℕ) → (b q : ℕ) → (onto : List ℕ) → (levels : List Level) → (T : ℕ) → (found : List ℕ) → Type 0
+FoundTold B m t b q onto levels T found = (a : ℕ) → a < B.k → LetterTold B m t b q onto levels T a (at found a)
 
 -- so do the levels of the states that are not low, however they are written
 abbrev pub LevelsTell : Board → Mode → (t : List ℕ) → (b q : ℕ) → (onto row : List ℕ) → (low T : ℕ) → (found : List ℕ) → Type 0
-LevelsTell B m t b q onto row low T found = (every rest count : ℕ) (values members : List ℕ) → Below B.n every → Minus every low rest
-    → Levels (at row) rest T values members count → FoundTold B m t b q onto values members count T found
+LevelsTell B m t b q onto row low T found = (every rest : ℕ) (levels : List Level) → Below B.n every → Minus every low rest
+    → Levels (at row) rest T levels → FoundTold B m t b q onto levels T found
 
 -- all positions of a row are stirred, and all of a layer
 abbrev pub RedStirred : Board → Mode → Rising → (b q : ℕ) → Type 0
@@ -101,22 +102,22 @@ abbrev pub AllEnded : Board → Mode → (t : List ℕ) → Type 0
 AllEnded B m t = (b q r a : ℕ) → b < layers m → q < B.n → r < B.n → a < B.k → ((x : ℕ) × Moves B r a x) ⊎ Still B m t b q r a
 
 -- what the work on a row asks for: the arena, room for marks, and the row
-pub record Working (g : Arena) (marks moves table grown columns : List ℕ) (w : Row) : Type 0 where
-  pub ready : Ready g marks moves table
-  pub spacious : Spacious (board_in g marks moves) g.mode grown columns
-  pub rowed : Rowed g.states g.mode w
+pub record Working (g : Game) (table grown columns : List ℕ) (w : Row) : Type 0 where
+  pub ready : Playable g table
+  pub spacious : Spacious (board g) g.arena.mode grown columns
+  pub rowed : Rowed g.arena.states g.arena.mode w
 
 -- e is what Duplicator's (b,q,r,a) of the row asks for, or neither is more than its entry
-abbrev pub Asks : Arena → (marks moves table : List ℕ) → (w : Row) → (r a e : ℕ) → Type 0
-Asks g marks moves table w r a e =
-    max (at table (number (board_in g marks moves) g.mode (duplicator w.b w.q r a))) e
-    ≡ max (at table (number (board_in g marks moves) g.mode (duplicator w.b w.q r a))) (low_at (board_in g marks moves) g.mode table w.b w.q r a)
+abbrev pub Asks : Game → (table : List ℕ) → (w : Row) → (r a e : ℕ) → Type 0
+Asks g table w r a e =
+    max (at table (number (board g) g.arena.mode (duplicator w.b w.q r a))) e
+    ≡ max (at table (number (board g) g.arena.mode (duplicator w.b w.q r a))) (low_at (board g) g.arena.mode table w.b w.q r a)
 
 -- what the work on all rows asks for: the arena, the accepting states and the moves as sets, room for marks, and what Spoiler's half has left
-pub record Prepared (g : Arena) (marks moves : List ℕ) (acc : ℕ) (into onto : List ℕ) (s : Rising) (grown columns : List ℕ) : Type 0 where
-  pub ready : Ready g marks moves s.table
-  pub accepting : Accepting (board_in g marks moves) acc
-  pub drawn_into : Into (board_in g marks moves) into
-  pub drawn_onto : Onto (board_in g marks moves) onto
-  pub spacious : Spacious (board_in g marks moves) g.mode grown columns
-  pub roomy : Roomy (board_in g marks moves) g.mode s
+pub record Prepared (g : Game) (acc : ℕ) (into onto : List ℕ) (s : Rising) (grown columns : List ℕ) : Type 0 where
+  pub ready : Playable g s.table
+  pub accepting : Accepting (board g) acc
+  pub drawn_into : Into (board g) into
+  pub drawn_onto : Onto (board g) onto
+  pub spacious : Spacious (board g) g.arena.mode grown columns
+  pub roomy : Roomy (board g) g.arena.mode s

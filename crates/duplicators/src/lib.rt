@@ -3,13 +3,13 @@
 
 ghost use Rattle.std.specs.Prelude.{length};
 ghost use Rattle.games.specs.Half.{Halved};
-ghost use Rattle.arena.specs.Arena.{board_in, game_in, Ready};
+ghost use Rattle.arena.specs.Game.{board, Playable, played};
 ghost use Rattle.halves.specs.Drawn.{Accepting, Into, Onto};
 ghost use Rattle.halves.specs.Half.{AllStirred};
 ghost use Rattle.halves.specs.Rising.{Roomy, Spacious, rising};
 ghost use Rattle.duplicators.specs.Growing.{AnsweredIn, growing};
 
-use arena::Arena;
+use arena::Game;
 use layers::answer_layer;
 
 mod ends;
@@ -18,15 +18,14 @@ mod raising;
 mod rows;
 mod scans;
 mod seats;
+mod telling;
 mod told;
 
 pub use ends::dead_ends;
 
 // Duplicator's half of a sweep: each of Duplicator's entries becomes the greater of itself and of what it asks for, and those that rise are marked. How many rose.
 pub fn answer(
-    g: Arena,
-    marks: &[u8],
-    moves: &[u8],
+    game: &Game,
     acc: u64,
     into: &[u64],
     onto: &[u64],
@@ -37,25 +36,21 @@ pub fn answer(
     grown: &mut [u64],
     columns: &mut [u64],
 ) -> usize
-    requires ready { Ready g marks.now moves.now table.old }
-    requires accepting { Accepting (board_in g marks.now moves.now) acc }
-    requires into { Into (board_in g marks.now moves.now) into.now }
-    requires onto { Onto (board_in g marks.now moves.now) onto.now }
-    requires spacious { Spacious (board_in g marks.now moves.now) g.mode grown.old columns.old }
-    requires roomy { Roomy (board_in g marks.now moves.now) g.mode (rising table.old risen.now rows.now olds.now) }
-    requires all_stirred { AllStirred (board_in g marks.now moves.now) g.mode (rising table.old risen.now rows.now olds.now) }
-    ensures halved { Halved (game_in g marks.now moves.now) g.pairs (length table.old) table.old table.new }
-    ensures answered_in { AnsweredIn g marks.now moves.now (growing table.old grown.old columns.old) (growing table.new grown.new columns.new) result }
+    requires ready { Playable game.now table.old }
+    requires accepting { Accepting (board game.now) acc }
+    requires into { Into (board game.now) into.now }
+    requires onto { Onto (board game.now) onto.now }
+    requires spacious { Spacious (board game.now) game.now.arena.mode grown.old columns.old }
+    requires roomy { Roomy (board game.now) game.now.arena.mode (rising table.old risen.now rows.now olds.now) }
+    requires all_stirred { AllStirred (board game.now) game.now.arena.mode (rising table.old risen.now rows.now olds.now) }
+    ensures halved { Halved (played game.now) game.now.arena.pairs (length table.old) table.old table.new }
+    ensures answered_in { AnsweredIn game.now (growing table.old grown.old columns.old) (growing table.new grown.new columns.new) result }
 {
-    let mode = g.mode;
-    let layers = arena::layers_of(mode);
     let mut count = 0;
-    let mut b = 0;
-    while b < layers {
+    for b in 0..arena::layers_of(game.arena.mode) {
         count += answer_layer(
-            g, marks, moves, acc, into, onto, risen, rows, olds, b, table, grown, columns,
+            game, acc, into, onto, risen, rows, olds, b, table, grown, columns,
         );
-        b += 1;
     }
     count
 }

@@ -1,60 +1,37 @@
-// Raising one of Duplicator's entries, and marking it.
-ghost use Rattle.std.specs.Prelude.{◌≡◌, ◌≤◌, ◌<◌};
+// Raising Duplicator's entries to what they ask for, and marking those that rise.
+ghost use Rattle.std.specs.Prelude.{◌≡◌, ℕ, ◌≤◌, ◌<◌, length};
+ghost use Rattle.std.specs.Int.{from_bool};
+ghost use Rattle.games.specs.Game.{at};
+ghost use Rattle.words.specs.Word.{In};
 ghost use Rattle.automaton.specs.Limits.{most_letters, most_states};
-ghost use Rattle.simulation.specs.Position.{duplicator, layers, number};
-ghost use Rattle.arena.specs.Arena.{board_in, Ready};
+ghost use Rattle.simulation.specs.Position.{layers};
+ghost use Rattle.arena.specs.Game.{board};
 ghost use Rattle.halves.specs.Rising.{Spacious};
+ghost use Rattle.levels.specs.Lows.{AllWithin, Within};
 ghost use Rattle.duplicators.specs.Growing.{AnsweredIn, growing, MarkedToo};
-ghost use Rattle.duplicators.specs.Rows.{Asks, Rowed, Still, Working};
+ghost use Rattle.duplicators.specs.Rows.{Asks, FoundStill, LetterStill, Still, Working};
 
 use super::seats::Row;
-use arena::Arena;
-
-// The number of Duplicator's (b,q,r,a).
-pub fn place(
-    g: Arena,
-    marks: &[u8],
-    moves: &[u8],
-    table: &[u32],
-    w: Row,
-    r: usize,
-    a: usize,
-) -> usize
-    requires ready { Ready g marks.now moves.now table.now }
-    requires rowed { Rowed g.states g.mode w }
-    requires r_lt_states { (r < g.states) × (a < g.letters) }
-    ensures { result ≡ number (board_in g marks.now moves.now) g.mode (duplicator w.b w.q r a) }
-{
-    g.pairs + (w.plain + r) * g.letters + a
-}
+use super::telling::Tell;
+use arena::Game;
 
 // Marks (b,q,r,a): q in the word of its column, and r in the word of those columns.
-fn mark(
-    g: Arena,
-    marks: &[u8],
-    moves: &[u8],
-    w: Row,
-    r: usize,
-    a: usize,
-    grown: &mut [u64],
-    columns: &mut [u64],
-)
-    requires spacious { Spacious (board_in g marks.now moves.now) g.mode grown.old columns.old }
-    requires states_le_most_states { (g.states ≤ most_states) × (g.letters ≤ most_letters) }
-    requires b_bound { (w.b < layers g.mode) × (w.q < g.states) × (r < g.states) × (a < g.letters) }
-    ensures { MarkedToo (board_in g marks.now moves.now) grown.old columns.old grown.new columns.new w.b w.q r a }
+fn mark(game: &Game, w: Row, r: usize, a: usize, grown: &mut [u64], columns: &mut [u64])
+    requires spacious { Spacious (board game.now) game.now.arena.mode grown.old columns.old }
+    requires states_le_most_states { (game.now.arena.states ≤ most_states) × (game.now.arena.letters ≤ most_letters) }
+    requires in_range { (w.b < layers game.now.arena.mode) × (w.q < game.now.arena.states) × (r < game.now.arena.states) × (a < game.now.arena.letters) }
+    ensures { MarkedToo (board game.now) grown.old columns.old grown.new columns.new w.b w.q r a }
 {
     let b = w.b;
-    let j = (b * g.states + r) * g.letters + a;
+    let j = (b * game.arena.states + r) * game.arena.letters + a;
     grown[j] = words::with(grown[j], w.q);
     columns[b] = words::with(columns[b], r);
 }
 
-// Raises the entry of (b,q,r,a) to e, which is what it asks for if that is more than it has: 1 if it rose, else 0.
-pub fn raise(
-    g: Arena,
-    marks: &[u8],
-    moves: &[u8],
+// Raises the entry of (b,q,r,a) to e, which is what it asks for if that is more than it has. Did it rise?
+#[inline]
+fn raise(
+    game: &Game,
     w: Row,
     r: usize,
     a: usize,
@@ -62,18 +39,69 @@ pub fn raise(
     table: &mut [u32],
     grown: &mut [u64],
     columns: &mut [u64],
-) -> usize
-    requires working { Working g marks.now moves.now table.old grown.old columns.old w }
-    requires r_lt_states { (r < g.states) × (a < g.letters) }
-    requires asks { Asks g marks.now moves.now table.old w r a e }
-    ensures answered_in { AnsweredIn g marks.now moves.now (growing table.old grown.old columns.old) (growing table.new grown.new columns.new) result }
-    ensures still { Still (board_in g marks.now moves.now) g.mode table.new w.b w.q r a }
+) -> bool
+    requires working { Working game.now table.old grown.old columns.old w }
+    requires in_range { (r < game.now.arena.states) × (a < game.now.arena.letters) }
+    requires asks { Asks game.now table.old w r a e }
+    ensures answered_in { AnsweredIn game.now (growing table.old grown.old columns.old) (growing table.new grown.new columns.new) (from_bool result) }
+    ensures still { Still (board game.now) game.now.arena.mode table.new w.b w.q r a }
 {
-    let i = place(g, marks, moves, &table[..], w, r, a);
+    let i = w.place(game, r, a);
     if table[i] < e {
         table[i] = e;
-        mark(g, marks, moves, w, r, a, grown, columns);
-        return 1;
+        mark(game, w, r, a, grown, columns);
+        return true;
     }
-    0
+    false
+}
+
+// Raises a letter's candidates to what they ask for: how many rose.
+#[inline]
+fn raise_letter<T: Tell>(
+    game: &Game,
+    tell: &T,
+    w: Row,
+    a: usize,
+    candidates: u64,
+    table: &mut [u32],
+    grown: &mut [u64],
+    columns: &mut [u64],
+) -> usize
+    requires working { Working game.now table.old grown.old columns.old w }
+    requires in_range { (a < game.now.arena.letters) × Within candidates game.now.arena.states }
+    requires can_tell { (r : ℕ) → In r candidates → T.can_tell tell.now game.now table.old w r a }
+    ensures answered_in { AnsweredIn game.now (growing table.old grown.old columns.old) (growing table.new grown.new columns.new) result }
+    ensures letter_still { LetterStill (board game.now) game.now.arena.mode table.new w.b w.q a candidates }
+{
+    let mut count = 0;
+    for r in words::members(candidates) {
+        let low = tell.low(game, &table[..], w, r, a);
+        let rose = raise(game, w, r, a, low, table, grown, columns);
+        count += usize::from(rose);
+    }
+    count
+}
+
+// The same of every letter.
+#[inline]
+pub fn raise_all<T: Tell>(
+    game: &Game,
+    tell: &T,
+    w: Row,
+    found: &[u64],
+    table: &mut [u32],
+    grown: &mut [u64],
+    columns: &mut [u64],
+) -> usize
+    requires working { Working game.now table.old grown.old columns.old w }
+    requires found_within { (game.now.arena.letters ≤ length found.now) × AllWithin game.now.arena.letters game.now.arena.states found.now }
+    requires can_tell { (a r : ℕ) → a < game.now.arena.letters → In r (at found.now a) → T.can_tell tell.now game.now table.old w r a }
+    ensures answered_in { AnsweredIn game.now (growing table.old grown.old columns.old) (growing table.new grown.new columns.new) result }
+    ensures found_still { FoundStill (board game.now) game.now.arena.mode table.new w.b w.q game.now.arena.letters found.now }
+{
+    let mut count = 0;
+    for a in 0..game.arena.letters {
+        count += raise_letter(game, tell, w, a, found[a], table, grown, columns);
+    }
+    count
 }

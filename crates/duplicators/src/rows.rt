@@ -1,21 +1,23 @@
 // One row of Duplicator's positions: its candidates are raised by what a scan of their steps or the row's levels tell.
 ghost use Rattle.std.specs.Prelude.{◌*◌, ◌≤◌, length};
-ghost use Rattle.arena.specs.Arena.{board_in};
+ghost use Rattle.arena.specs.Game.{board};
 ghost use Rattle.halves.specs.Drawn.{Accepting, Into, Onto};
 ghost use Rattle.levels.specs.Lows.{AllWithin, Within};
 ghost use Rattle.duplicators.specs.Growing.{AnsweredIn, growing};
 ghost use Rattle.duplicators.specs.Rows.{FoundStill, LevelsTell, RowFound, RowStill, RowStirred, Working};
 
+use super::raising::raise_all;
+use super::scans::Scan;
 use super::seats::Row;
-use super::{scans, seats, told};
-use arena::Arena;
+use super::told::Told;
+use arena::Game;
+use automaton::Automaton;
 use levels::candidates;
+use levels::row::Level;
 
 // Raises the candidates of a row, none of which has a step to one of `low`, by the levels of the others: how many rose.
 fn level_rest(
-    g: Arena,
-    marks: &[u8],
-    moves: &[u8],
+    game: &Game,
     onto: &[u64],
     w: Row,
     row: &[u32],
@@ -25,20 +27,28 @@ fn level_rest(
     grown: &mut [u64],
     columns: &mut [u64],
 ) -> usize
-    requires working { Working g marks.now moves.now table.old grown.old columns.old w }
-    requires letters_in_bounds { g.states * g.letters ≤ length onto.now }
-    requires letters_in_bounds_2 { (g.letters ≤ length found.now) × AllWithin g.letters g.states found.now }
-    requires states_in_bounds { g.states ≤ length row.now }
-    requires levels_tell { LevelsTell (board_in g marks.now moves.now) g.mode table.old w.b w.q onto.now row.now low g.top found.now }
-    ensures answered_in { AnsweredIn g marks.now moves.now (growing table.old grown.old columns.old) (growing table.new grown.new columns.new) result }
-    ensures found_still { FoundStill (board_in g marks.now moves.now) g.mode table.new w.b w.q g.letters found.now }
+    requires working { Working game.now table.old grown.old columns.old w }
+    requires onto_whole { game.now.arena.states * game.now.arena.letters ≤ length onto.now }
+    requires found_within { (game.now.arena.letters ≤ length found.now) × AllWithin game.now.arena.letters game.now.arena.states found.now }
+    requires row_whole { game.now.arena.states ≤ length row.now }
+    requires levels_tell { LevelsTell (board game.now) game.now.arena.mode table.old w.b w.q onto.now row.now low game.now.arena.top found.now }
+    ensures answered_in { AnsweredIn game.now (growing table.old grown.old columns.old) (growing table.new grown.new columns.new) result }
+    ensures found_still { FoundStill (board game.now) game.now.arena.mode table.new w.b w.q game.now.arena.letters found.now }
 {
-    let mut values = [0u32; 64];
-    let mut members = [0u64; 64];
-    let rest = words::minus(words::below(g.states), low);
-    let count = levels::row::levels(row, rest, g.top, &mut values, &mut members);
-    told::level_all(
-        g, marks, moves, onto, w, found, &values, &members, count, table, grown, columns,
+    let mut room = [Level {
+        value: 0,
+        members: 0,
+    }; Automaton::STATES];
+    let rest = words::minus(words::below(game.arena.states), low);
+    let levels = levels::row::levels(row, rest, game.arena.top, &mut room);
+    raise_all(
+        game,
+        &Told { onto, levels },
+        w,
+        found,
+        table,
+        grown,
+        columns,
     )
 }
 
@@ -47,19 +57,18 @@ fn at_most_8(k: usize, found: &[u64]) -> bool
     requires { (k ≤ 16) × (k ≤ length found.now) }
 {
     let mut count = 0;
-    let mut a = 0;
-    while a < k && count <= 8 {
-        count += words::size(found[a]);
-        a += 1;
+    for word in &found[..k] {
+        count += words::size(*word);
+        if 8 < count {
+            return false;
+        }
     }
-    count <= 8
+    true
 }
 
 // The same, by scans where the candidates are few: levels would cost more than they save.
 fn raise_rest(
-    g: Arena,
-    marks: &[u8],
-    moves: &[u8],
+    game: &Game,
     acc: u64,
     onto: &[u64],
     w: Row,
@@ -70,28 +79,24 @@ fn raise_rest(
     grown: &mut [u64],
     columns: &mut [u64],
 ) -> usize
-    requires working { Working g marks.now moves.now table.old grown.old columns.old w }
-    requires accepting { Accepting (board_in g marks.now moves.now) acc }
-    requires onto { Onto (board_in g marks.now moves.now) onto.now }
-    requires letters_in_bounds { (g.letters ≤ length found.now) × AllWithin g.letters g.states found.now }
-    requires states_in_bounds { g.states ≤ length row.now }
-    requires levels_tell { LevelsTell (board_in g marks.now moves.now) g.mode table.old w.b w.q onto.now row.now low g.top found.now }
-    ensures answered_in { AnsweredIn g marks.now moves.now (growing table.old grown.old columns.old) (growing table.new grown.new columns.new) result }
-    ensures found_still { FoundStill (board_in g marks.now moves.now) g.mode table.new w.b w.q g.letters found.now }
+    requires working { Working game.now table.old grown.old columns.old w }
+    requires accepting { Accepting (board game.now) acc }
+    requires onto { Onto (board game.now) onto.now }
+    requires found_within { (game.now.arena.letters ≤ length found.now) × AllWithin game.now.arena.letters game.now.arena.states found.now }
+    requires row_whole { game.now.arena.states ≤ length row.now }
+    requires levels_tell { LevelsTell (board game.now) game.now.arena.mode table.old w.b w.q onto.now row.now low game.now.arena.top found.now }
+    ensures answered_in { AnsweredIn game.now (growing table.old grown.old columns.old) (growing table.new grown.new columns.new) result }
+    ensures found_still { FoundStill (board game.now) game.now.arena.mode table.new w.b w.q game.now.arena.letters found.now }
 {
-    if at_most_8(g.letters, found) {
-        return scans::scan_all(g, marks, moves, acc, onto, w, found, table, grown, columns);
+    if at_most_8(game.arena.letters, found) {
+        return raise_all(game, &Scan { acc, onto }, w, found, table, grown, columns);
     }
-    level_rest(
-        g, marks, moves, onto, w, row, low, found, table, grown, columns,
-    )
+    level_rest(game, onto, w, row, low, found, table, grown, columns)
 }
 
 // Raises the candidates of a row, but for those that have a step to an entry of at most `old`: how many rose.
 fn level_row(
-    g: Arena,
-    marks: &[u8],
-    moves: &[u8],
+    game: &Game,
     acc: u64,
     into: &[u64],
     onto: &[u64],
@@ -102,27 +107,25 @@ fn level_row(
     grown: &mut [u64],
     columns: &mut [u64],
 ) -> usize
-    requires working { Working g marks.now moves.now table.old grown.old columns.old w }
-    requires accepting { Accepting (board_in g marks.now moves.now) acc }
-    requires into { Into (board_in g marks.now moves.now) into.now }
-    requires onto { Onto (board_in g marks.now moves.now) onto.now }
-    requires letters_in_bounds { (g.letters ≤ length found.old) × AllWithin g.letters g.states found.old }
-    requires row_found { RowFound (board_in g marks.now moves.now) g.mode table.old w.b w.q found.old old }
-    ensures answered_in { AnsweredIn g marks.now moves.now (growing table.old grown.old columns.old) (growing table.new grown.new columns.new) result }
-    ensures row_still { RowStill (board_in g marks.now moves.now) g.mode table.new w.b w.q }
+    requires working { Working game.now table.old grown.old columns.old w }
+    requires accepting { Accepting (board game.now) acc }
+    requires into { Into (board game.now) into.now }
+    requires onto { Onto (board game.now) onto.now }
+    requires found_within { (game.now.arena.letters ≤ length found.old) × AllWithin game.now.arena.letters game.now.arena.states found.old }
+    requires row_found { RowFound (board game.now) game.now.arena.mode table.old w.b w.q found.old old }
+    ensures answered_in { AnsweredIn game.now (growing table.old grown.old columns.old) (growing table.new grown.new columns.new) result }
+    ensures row_still { RowStill (board game.now) game.now.arena.mode table.new w.b w.q }
 {
-    let n = g.states;
-    let k = g.letters;
-    let mut row = [0u32; 64];
-    let low = seats::gather(acc, &table[..], w, n, old, &mut row);
+    let n = game.arena.states;
+    let k = game.arena.letters;
+    let mut row = [0u32; Automaton::STATES];
+    let low = w.gather(acc, &table[..], n, old, &mut row);
     let any = candidates::spare_all(n, k, into, low, found);
     if any == 0 {
         return 0;
     }
     raise_rest(
-        g,
-        marks,
-        moves,
+        game,
         acc,
         onto,
         w,
@@ -151,9 +154,7 @@ fn few(n: usize, k: usize, count: usize, moves: usize, top: u32) -> bool
 
 // Raises the entries of a row, of which those may rise that have a step to one of `fresh`: how many rose.
 pub fn answer_row(
-    g: Arena,
-    marks: &[u8],
-    moves: &[u8],
+    game: &Game,
     acc: u64,
     into: &[u64],
     onto: &[u64],
@@ -164,23 +165,23 @@ pub fn answer_row(
     grown: &mut [u64],
     columns: &mut [u64],
 ) -> usize
-    requires working { Working g marks.now moves.now table.old grown.old columns.old w }
-    requires accepting { Accepting (board_in g marks.now moves.now) acc }
-    requires into { Into (board_in g marks.now moves.now) into.now }
-    requires onto { Onto (board_in g marks.now moves.now) onto.now }
-    requires within { Within fresh g.states }
-    requires row_stirred { RowStirred (board_in g marks.now moves.now) g.mode table.old w.b w.q fresh old }
-    ensures answered_in { AnsweredIn g marks.now moves.now (growing table.old grown.old columns.old) (growing table.new grown.new columns.new) result }
-    ensures row_still { RowStill (board_in g marks.now moves.now) g.mode table.new w.b w.q }
+    requires working { Working game.now table.old grown.old columns.old w }
+    requires accepting { Accepting (board game.now) acc }
+    requires into { Into (board game.now) into.now }
+    requires onto { Onto (board game.now) onto.now }
+    requires within { Within fresh game.now.arena.states }
+    requires row_stirred { RowStirred (board game.now) game.now.arena.mode table.old w.b w.q fresh old }
+    ensures answered_in { AnsweredIn game.now (growing table.old grown.old columns.old) (growing table.new grown.new columns.new) result }
+    ensures row_still { RowStill (board game.now) game.now.arena.mode table.new w.b w.q }
 {
-    let n = g.states;
-    let k = g.letters;
-    let mut found = [0u64; 16];
+    let n = game.arena.states;
+    let k = game.arena.letters;
+    let mut found = [0u64; Automaton::LETTERS];
     let count = candidates::reach_all(n, k, into, fresh, &mut found);
-    if few(n, k, count, moves.len() / 3, g.top) {
-        return scans::scan_all(g, marks, moves, acc, onto, w, &found, table, grown, columns);
+    if few(n, k, count, game.moves.len() / 3, game.arena.top) {
+        return raise_all(game, &Scan { acc, onto }, w, &found, table, grown, columns);
     }
     level_row(
-        g, marks, moves, acc, into, onto, w, old, &mut found, table, grown, columns,
+        game, acc, into, onto, w, old, &mut found, table, grown, columns,
     )
 }

@@ -1,15 +1,20 @@
-// Candidates raised by what they ask for, read off the table step by step.
-ghost use Rattle.std.specs.Prelude.{◌≤◌, ◌<◌, length};
-ghost use Rattle.arena.specs.Arena.{board_in};
+// What a position asks for, read off the table step by step.
+ghost use Rattle.std.specs.Prelude.{◌*◌, ◌≤◌};
+ghost use Rattle.arena.specs.Game.{board};
 ghost use Rattle.halves.specs.Drawn.{Accepting, Onto};
-ghost use Rattle.levels.specs.Lows.{AllWithin, LowPast, Within};
-ghost use Rattle.duplicators.specs.Growing.{AnsweredIn, growing};
-ghost use Rattle.duplicators.specs.Rows.{FoundStill, LetterStill, Seats, seen_in, Still, Working};
+ghost use Rattle.levels.specs.Lows.{LowPast, Within};
+ghost use Rattle.duplicators.specs.Rows.{Seats, seen_in};
 
 use super::seats::Row;
-use super::{raising, seats};
-use arena::Arena;
-use levels::row::lesser;
+use super::telling::Tell;
+use arena::Game;
+
+// The accepting states, and the steps of each state by each letter.
+#[derive(Clone, Copy)]
+pub struct Scan<'a> {
+    pub acc: u64,
+    pub onto: &'a [u64],
+}
 
 // The least entry that the steps lead to, and top if there are none. It looks no further once it is no greater than `old`.
 fn low_scan(acc: u64, table: &[u32], w: Row, n: usize, steps: u64, old: u32, top: u32) -> u32
@@ -19,101 +24,32 @@ fn low_scan(acc: u64, table: &[u32], w: Row, n: usize, steps: u64, old: u32, top
     ensures { LowPast (seen_in acc table.now w) steps top old result }
 {
     let mut low = top;
-    let mut left = steps;
-    while left != 0 && old < low {
-        let x = words::lowest(left);
-        left = words::rest(left);
-        low = lesser(low, seats::seen(acc, table, w, x));
+    for x in words::members(steps) {
+        if low <= old {
+            break;
+        }
+        low = low.min(w.seen(acc, table, x));
     }
     low
 }
 
-// Raises the entry of (b,q,r,a) by a scan of its steps: 1 if it rose, else 0.
-fn scan_one(
-    g: Arena,
-    marks: &[u8],
-    moves: &[u8],
-    acc: u64,
-    onto: &[u64],
-    w: Row,
-    r: usize,
-    a: usize,
-    table: &mut [u32],
-    grown: &mut [u64],
-    columns: &mut [u64],
-) -> usize
-    requires working { Working g marks.now moves.now table.old grown.old columns.old w }
-    requires accepting { Accepting (board_in g marks.now moves.now) acc }
-    requires onto { Onto (board_in g marks.now moves.now) onto.now }
-    requires r_lt_states { (r < g.states) × (a < g.letters) }
-    ensures answered_in { AnsweredIn g marks.now moves.now (growing table.old grown.old columns.old) (growing table.new grown.new columns.new) result }
-    ensures still { Still (board_in g marks.now moves.now) g.mode table.new w.b w.q r a }
-{
-    let i = raising::place(g, marks, moves, &table[..], w, r, a);
-    let steps = onto[r * g.letters + a];
-    let low = low_scan(acc, &table[..], w, g.states, steps, table[i], g.top);
-    raising::raise(g, marks, moves, w, r, a, low, table, grown, columns)
-}
+impl<'a> Tell for Scan<'a> {
+    ghost can_tell = { λ x g t w r a. Accepting (board g) x.acc × Onto (board g) x.onto.now };
 
-// The same of a letter's candidates: how many rose.
-fn scan_letter(
-    g: Arena,
-    marks: &[u8],
-    moves: &[u8],
-    acc: u64,
-    onto: &[u64],
-    w: Row,
-    a: usize,
-    candidates: u64,
-    table: &mut [u32],
-    grown: &mut [u64],
-    columns: &mut [u64],
-) -> usize
-    requires working { Working g marks.now moves.now table.old grown.old columns.old w }
-    requires accepting { Accepting (board_in g marks.now moves.now) acc }
-    requires onto { Onto (board_in g marks.now moves.now) onto.now }
-    requires a_lt_letters { (a < g.letters) × Within candidates g.states }
-    ensures answered_in { AnsweredIn g marks.now moves.now (growing table.old grown.old columns.old) (growing table.new grown.new columns.new) result }
-    ensures letter_still { LetterStill (board_in g marks.now moves.now) g.mode table.new w.b w.q a candidates }
-{
-    let mut count = 0;
-    let mut left = candidates;
-    while left != 0 {
-        let r = words::lowest(left);
-        left = words::rest(left);
-        count += scan_one(g, marks, moves, acc, onto, w, r, a, table, grown, columns);
+    #[inline]
+    fn low(&self, game: &Game, table: &[u32], w: Row, r: usize, a: usize) -> u32 {
+        let old = table[w.place(game, r, a)];
+        let steps = self.onto[r * game.arena.letters + a];
+        low_scan(
+            self.acc,
+            table,
+            w,
+            game.arena.states,
+            steps,
+            old,
+            game.arena.top,
+        )
     }
-    count
-}
 
-// The same of every letter.
-pub fn scan_all(
-    g: Arena,
-    marks: &[u8],
-    moves: &[u8],
-    acc: u64,
-    onto: &[u64],
-    w: Row,
-    found: &[u64],
-    table: &mut [u32],
-    grown: &mut [u64],
-    columns: &mut [u64],
-) -> usize
-    requires working { Working g marks.now moves.now table.old grown.old columns.old w }
-    requires accepting { Accepting (board_in g marks.now moves.now) acc }
-    requires onto { Onto (board_in g marks.now moves.now) onto.now }
-    requires letters_in_bounds { (g.letters ≤ length found.now) × AllWithin g.letters g.states found.now }
-    ensures answered_in { AnsweredIn g marks.now moves.now (growing table.old grown.old columns.old) (growing table.new grown.new columns.new) result }
-    ensures found_still { FoundStill (board_in g marks.now moves.now) g.mode table.new w.b w.q g.letters found.now }
-{
-    let k = g.letters;
-    let mut count = 0;
-    let mut a = 0;
-    while a < k {
-        count += scan_letter(
-            g, marks, moves, acc, onto, w, a, found[a], table, grown, columns,
-        );
-        a += 1;
-    }
-    count
+    ghost tells_again = { λ x g t u w r a same told. told };
 }

@@ -3,90 +3,49 @@
 #![tactic(auto)]
 
 ghost use Rattle.std.specs.Prelude.{◌≡◌, ◌≤◌, ◌<◌, length, replicate};
-ghost use Rattle.automaton.specs.First.{first};
+ghost use Rattle.automaton.specs.First.{first_below};
 ghost use Rattle.games.specs.Lift.{lift, rise};
-ghost use Rattle.arena.specs.Arena.{game_in, Ready};
-ghost use Rattle.asks.specs.Index.{Indexed};
-ghost use Rattle.entries.specs.Found.{above, restless};
+ghost use Rattle.arena.specs.Game.{Playable, played};
+ghost use Rattle.entries.specs.Found.{above, raised, restless};
 
-use arena::Arena;
 use asks::asked::asked;
-
-// Fills a stretch of a table with 0.
-fn fill(part: &mut [u32])
-    ensures { part.new ≡ replicate (length part.old) 0 }
-{
-    let mut i = 0;
-    while i < part.len() {
-        part[i] = 0;
-        i += 1;
-    }
-}
+use asks::index::Index;
 
 // Clears a table: Spoiler's entries, which are the first `pairs`, and by itself the stretch that begins where they end.
 pub fn clear(table: &mut [u32], pairs: usize)
     requires { pairs ≤ length table.old }
     ensures { table.new ≡ replicate (length table.old) 0 }
 {
-    fill(&mut table[0..pairs]);
-    fill(&mut table[pairs..]);
+    table[..pairs].fill(0);
+    table[pairs..].fill(0);
 }
 
-// The first entry above top, and the number of entries if there is none.
-pub fn first_above(table: &[u32], top: u32) -> usize
-    ensures { result ≡ first (above top table.now) 0 (length table.now) }
+// The first entry above top, if there is one.
+pub fn first_above(table: &[u32], top: u32) -> Option<usize>
+    ensures { result ≡ first_below (above top table.now) (length table.now) }
 {
-    let mut v = 0;
-    while v < table.len() {
-        if top < table[v] {
-            return v;
-        }
-        v += 1;
-    }
-    v
+    table.iter().position(|entry| top < *entry)
 }
 
-// The lowest position not at rest, and the number of positions if there is none.
-pub fn first_restless(
-    g: Arena,
-    marks: &[u8],
-    moves: &[u8],
-    begins: &[usize],
-    table: &[u32],
-) -> usize
-    requires ready { Ready g marks.now moves.now table.now }
-    requires indexed { Indexed g.states g.letters moves.now begins.now }
-    ensures { result ≡ first (restless (game_in g marks.now moves.now) table.now) 0 (length table.now) }
+// The lowest position not at rest, if there is one.
+pub fn first_restless(index: &Index, table: &[u32]) -> Option<usize>
+    requires { Playable index.now.game table.now }
+    ensures { result ≡ first_below (restless (played index.now.game) table.now) (length table.now) }
 {
-    let mut v = 0;
-    while v < table.len() {
-        if table[v] < asked(g, marks, moves, begins, table, v) {
-            return v;
-        }
-        v += 1;
-    }
-    v
+    (0..table.len()).find(|v| table[*v] < asked(index, table, *v))
 }
 
-// Lifts position v: 1 if its entry rose, else 0.
-pub fn lift(
-    g: Arena,
-    marks: &[u8],
-    moves: &[u8],
-    begins: &[usize],
-    table: &mut [u32],
-    v: usize,
-) -> usize
-    requires ready { Ready g marks.now moves.now table.old }
-    requires indexed { Indexed g.states g.letters moves.now begins.now }
+// Lifts position v: whether its entry rose.
+pub fn lift(index: &Index, table: &mut [u32], v: usize) -> bool
+    requires ready { Playable index.now.game table.old }
     requires v_in_bounds { v < length table.old }
-    ensures value { result ≡ rise (game_in g marks.now moves.now) table.old v }
-    ensures table_after { table.new ≡ lift (game_in g marks.now moves.now) table.old v }
+    ensures value { raised result ≡ rise (played index.now.game) table.old v }
+    ensures table_after { table.new ≡ lift (played index.now.game) table.old v }
 {
-    let value = asked(g, marks, moves, begins, &table[..], v);
+    let value = asked(index, &table[..], v);
     if table[v] < value {
         table[v] = value;
-        return 1;
+        return true;
     }
-    0
+    false
 }

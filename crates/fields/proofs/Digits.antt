@@ -1,25 +1,19 @@
 -- One digit more: what the loop over a field meets.
-use mathlib.Core.Path.{◌≡◌}
-use mathlib.Core.List.{List}
-use Prim.Native.Nat.{ℕ, ◌+◌, ◌-◌, ◌*◌, ◌≤◌, ◌<◌}
-use native.Mathlib.Numerals.{add-one}
-use borrow.Author.Tests.{lt-ltb, le-ltb}
-use lib.ListN.{length, get_or, drop}
-use lib.Seq.{drop-cons, drop-length}
-use Rattle.fields.specs.declared.Number.TheVariants.{Is, Not}
+use Rattle.std.proofs.Common.{Some, None, ◌≡◌, List, ℕ, ◌+◌, ◌-◌, ◌*◌, ◌≤◌, ◌<◌, add-one, lt-ltb, le-ltb, length, get_or, drop, drop-cons}
+use lib.Seq.{drop-length}
 use Rattle.fields.specs.Numbers.{digits}
 
 module _ (f : List ℕ) (v i : ℕ) (h : i < length f) where
-  pub digit_low : get_or f i 0 < 48 → digits v (drop i f) ≡ Not
+  pub digit_low : get_or f i 0 < 48 → digits v (drop i f) ≡ None
   unfolding digits
   digit_low a = simp (drop-cons f i 0 h, lt-ltb _ _ a)
 
-  pub digit-high : 48 ≤ get_or f i 0 → 57 < get_or f i 0 → digits v (drop i f) ≡ Not
+  pub digit-high : 48 ≤ get_or f i 0 → 57 < get_or f i 0 → digits v (drop i f) ≡ None
   unfolding digits
   digit-high a b = simp (drop-cons f i 0 h, le-ltb _ _ a, lt-ltb _ _ b)
 
   module _ (a : 48 ≤ get_or f i 0) (b : get_or f i 0 ≤ 57) where
-    pub digit_much : 65535 < v * 10 + (get_or f i 0 - 48) → digits v (drop i f) ≡ Not
+    pub digit_much : 65535 < v * 10 + (get_or f i 0 - 48) → digits v (drop i f) ≡ None
     unfolding digits
     digit_much m = simp (drop-cons f i 0 h, le-ltb _ _ a, le-ltb _ _ b, lt-ltb _ _ m)
 
@@ -27,6 +21,6 @@ module _ (f : List ℕ) (v i : ℕ) (h : i < length f) where
     unfolding digits
     digit-on m = simp (drop-cons f i 0 h, le-ltb _ _ a, le-ltb _ _ b, le-ltb _ _ m, add-one)
 
-pub digit-end : (f : List ℕ) (v i : ℕ) → i ≡ length f → digits v (drop i f) ≡ Is v
+pub digit-end : (f : List ℕ) (v i : ℕ) → i ≡ length f → digits v (drop i f) ≡ Some v
 unfolding digits
 digit-end f v i e = simp (e, drop-length)

@@ -1,10 +1,5 @@
 -- Bytes laid into a buffer: lengths, what is past its end, and bytes laid behind others.
-use mathlib.Core.Path.{◌≡◌, refl, sym, ap, ◌∙◌}
-use mathlib.Core.List.{List, [], ◌∷◌, ◌++◌}
-use Prim.Native.Nat.{ℕ, suc, ◌+◌, ◌≤◌, ◌<◌}
-use native.Mathlib.Omega.{arith}
-use lib.Dec.{ltb}
-use lib.ListN.{length, set, take, drop, length-set, length-append}
+use Rattle.std.proofs.Common.{◌≡◌, refl, sym, ap, ◌∙◌, List, [], ◌∷◌, ◌++◌, ℕ, suc, ◌+◌, ◌≤◌, ◌<◌, arith, ltb, length, set, take, drop, length-set, length-append}
 use lib.Seq.{set_out, length-sets, sets-eq}
 use Rattle.fields.specs.Bytes.{laid, stop}
 use Rattle.fields.proofs.Tests.{by_test}

@@ -1,10 +1,5 @@
 -- Bytes compared: what the kit's `same` answers is what the definition gives.
-use mathlib.Core.Path.{◌≡◌, refl, sym, ap, ◌∙◌}
-use mathlib.Core.Bool.{Bool, true, false, true≢false, cond}
-use mathlib.Core.List.{List, [], ◌∷◌}
-use Prim.Native.Nat.{ℕ}
-use borrow.Author.Tests.{eq-eqb, eqb-true}
-use lib.Dec.{eqb}
+use Rattle.std.proofs.Common.{◌≡◌, refl, sym, ap, ◌∙◌, Bool, true, false, true≢false, cond, List, [], ◌∷◌, ℕ, eq-eqb, eqb-true, eqb}
 use Rattle.fields.specs.Bytes.{same}
 
 same_self : (xs : List ℕ) → same xs xs ≡ true

@@ -1,13 +1,5 @@
 -- A number in decimal is read back as that number, and nothing else is.
-use mathlib.Core.Path.{◌≡◌, refl, ap, sym, ◌∙◌}
-use mathlib.Core.Bool.{Bool, true, false, ◌&&◌, cond}
-use mathlib.Core.List.{List, [], ◌∷◌, ◌++◌, append_assoc, append-nil}
-use Prim.Native.Nat.{ℕ, zero, suc, ◌+◌, ◌-◌, ◌*◌, ◌/◌, ◌%◌, ◌<◌, ◌≤◌}
-use native.Mathlib.Omega.{arith}
-use borrow.Author.Tests.{eq-eqb, ne_eqb, lt-ltb, le-ltb}
-use lib.Dec.{ltb, eqb}
-use lib.ListN.{length, get_or, length-append}
-use Rattle.fields.specs.declared.Number.TheVariants.{Is, Not}
+use Rattle.std.proofs.Common.{Some, None, ◌≡◌, refl, ap, sym, ◌∙◌, Bool, true, false, ◌&&◌, cond, List, [], ◌∷◌, ◌++◌, append_assoc, append-nil, ℕ, zero, suc, ◌+◌, ◌-◌, ◌*◌, ◌/◌, ◌%◌, ◌<◌, ◌≤◌, arith, eq-eqb, ne_eqb, lt-ltb, le-ltb, ltb, eqb, length, get_or, length-append}
 use Rattle.fields.specs.Numbers.{digits, number_of, shown_in, shown}
 use Rattle.fields.proofs.Tests.{by_test}
 
@@ -67,19 +59,19 @@ past-both : {A : Type 0} (t : Bool) (x y : A) → cond (t && false) x y ≡ y
 past-both true x y = refl
 past-both false x y = refl
 
-pub read-shown : (v : ℕ) → v ≤ 65535 → number_of (shown v) ≡ Is v
+pub read-shown : (v : ℕ) → v ≤ 65535 → number_of (shown v) ≡ Some v
 unfolding number_of digits
 read-shown v h =
-    let r : digits 0 (shown v) ≡ Is v = ap (digits 0) (sym (append-nil (shown v))) ∙ read-on (suc v) v [] (omega arith) h in
+    let r : digits 0 (shown v) ≡ Some v = ap (digits 0) (sym (append-nil (shown v))) ∙ read-on (suc v) v [] (omega arith) h in
     by_test v 10 (ltb v 10) refl
     (λ (l : v < 10). simp (shown-short v l) r)
     (λ (l : 10 ≤ v).
     let m : 48 < get_or (shown v) 0 0 = rw (append-nil (shown v)) at (lead (suc v) v [] (omega arith) (omega arith)) in
     let n : eqb (length (shown v)) 0 ≡ false = ne_eqb (length (shown v)) 0 (λ z. omega (arith, shown-long v l)) in
     let o : eqb (get_or (shown v) 0 0) 48 ≡ false = ne_eqb (get_or (shown v) 0 0) 48 (λ z. omega arith) in
-    simp (n, o) (past-both (ltb 1 (length (shown v))) Not (digits 0 (shown v)) ∙ r))
+    simp (n, o) (past-both (ltb 1 (length (shown v))) None (digits 0 (shown v)) ∙ r))
 
-is_not : (n : ℕ) → Not ≡ Is n → ⊥
+is_not : (n : ℕ) → None ≡ Some n → ⊥
 is_not n p = let z : ◌≡◌ {A = ℕ} 0 1 = cc in omega arith
 
 shown-step : (v d : ℕ) → 1 ≤ v → d < 10 → shown (v * 10 + d) ≡ shown v ++ ((48 + d) ∷ [])
@@ -89,7 +81,7 @@ shown-step v d h k =
     shown-more (v * 10 + d) (omega arith) ∙ simp (a, b)
 
 -- bytes that read to n after v are what n's digits have behind v's
-exact : (v n : ℕ) (l : List ℕ) → 1 ≤ v → digits v l ≡ Is n → shown v ++ l ≡ shown n
+exact : (v n : ℕ) (l : List ℕ) → 1 ≤ v → digits v l ≡ Some n → shown v ++ l ≡ shown n
 unfolding digits
 exact v n [] h e = let z : v ≡ n = cc in append-nil (shown v) ∙ ap shown z
 exact v n (d ∷ ds) h e =
@@ -106,7 +98,7 @@ exact v n (d ∷ ds) h e =
     exact (v * 10 + (d - 48)) n ds (omega arith) (simp (le-ltb d 48 a, le-ltb 57 d b, le-ltb 65535 (v * 10 + (d - 48)) m) at e))))
 
 -- only the decimal form of a number is read as that number
-pub number_exact : (f : List ℕ) (n : ℕ) → number_of f ≡ Is n → f ≡ shown n
+pub number_exact : (f : List ℕ) (n : ℕ) → number_of f ≡ Some n → f ≡ shown n
 unfolding number_of digits
 number_exact [] n e = absurd (is_not n e)
 number_exact (d ∷ []) n e =
@@ -116,7 +108,7 @@ number_exact (d ∷ []) n e =
     (λ (b : 57 < d). absurd (is_not n (simp (le-ltb d 48 a, lt-ltb 57 d b) at e)))
     (λ (b : d ≤ 57).
     let m : ltb 65535 (0 * 10 + (d - 48)) ≡ false = le-ltb 65535 (0 * 10 + (d - 48)) (omega arith) in
-    let g : Is (0 * 10 + (d - 48)) ≡ Is n = simp (le-ltb d 48 a, le-ltb 57 d b, m) at e in
+    let g : Some (0 * 10 + (d - 48)) ≡ Some n = simp (le-ltb d 48 a, le-ltb 57 d b, m) at e in
     let z : 0 * 10 + (d - 48) ≡ n = cc in
     let w : d ≡ 48 + n = omega arith in
     ap (λ (y : ℕ). y ∷ []) w ∙ sym (shown-one n (omega arith))))

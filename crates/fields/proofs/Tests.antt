@@ -1,9 +1,5 @@
 -- Going by a test of two numbers.
-use mathlib.Core.Path.{◌≡◌}
-use mathlib.Core.Bool.{Bool, true, false}
-use Prim.Native.Nat.{ℕ, ◌≤◌, ◌<◌}
-use borrow.Author.Tests.{ltb-true, ltb-false}
-use lib.Dec.{ltb}
+use Rattle.std.proofs.Common.{◌≡◌, Bool, true, false, ℕ, ◌≤◌, ◌<◌, ltb-true, ltb-false, ltb}
 
 -- below, or not
 pub by_test : {A : Type 0} (a b : ℕ) (t : Bool) → ltb a b ≡ t → (a < b → A) → (b ≤ a → A) → A

@@ -1,10 +1,5 @@
 -- How many digits a number has at most.
-use mathlib.Core.Path.{◌≡◌, refl, ap, ◌∙◌}
-use Prim.Native.Nat.{ℕ, zero, suc, ◌+◌, ◌*◌, ◌/◌, ◌^◌, ◌≤◌, ◌<◌}
-use native.Mathlib.Omega.{arith}
-use lib.Dec.{ltb}
-use lib.ListN.{length}
-use lib.Pow.{pow-add}
+use Rattle.std.proofs.Common.{◌≡◌, refl, ap, ◌∙◌, ℕ, zero, suc, ◌+◌, ◌*◌, ◌/◌, ◌^◌, ◌≤◌, ◌<◌, arith, ltb, length, pow-add}
 use Rattle.fields.specs.Numbers.{shown}
 use Rattle.fields.proofs.Tests.{by_test}
 use Rattle.fields.proofs.Shown.{shown-short, shown-long}

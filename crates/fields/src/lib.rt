@@ -7,46 +7,35 @@ ghost use Rattle.fields.specs.Bytes.{laid, stop};
 ghost use Rattle.fields.specs.Numbers.{number_of, shown};
 
 // What parts fields, and what ends a line.
-pub const TAB: u8 = 9;
+pub const TAB: u8 = b'\t';
 
-pub const NEWLINE: u8 = 10;
+pub const NEWLINE: u8 = b'\n';
 
-// What a field says: a number, or none.
-#[derive(Clone, Copy)]
-pub enum Number {
-    Is(usize),
-    Not,
-}
+// The largest number read.
+const LARGEST: usize = 65535;
 
-// The number that a field says: decimal digits, no leading zero, at most 65535.
-pub fn read_number(field: &[u8]) -> Number
+// The number that a field says: decimal digits, no leading zero, none above the largest.
+#[tactic(auto, unfolding(crate::specs::Numbers::number_of))]
+pub fn read_number(field: &[u8]) -> Option<usize>
     ensures { result ≡ number_of field.now }
 {
-    if field.len() == 0 {
-        return Number::Not;
+    if field.is_empty() {
+        return None;
     }
-    if 1 < field.len() {
-        if field[0] == 48 {
-            return Number::Not;
-        }
+    if field.len() > 1 && field[0] == b'0' {
+        return None;
     }
     let mut v: usize = 0;
-    let mut i = 0;
-    while i < field.len() {
-        let d = automaton::wide(field[i]);
-        if d < 48 {
-            return Number::Not;
+    for &byte in field {
+        if byte < b'0' || byte > b'9' {
+            return None;
         }
-        if 57 < d {
-            return Number::Not;
+        v = v * 10 + usize::from(byte - b'0');
+        if v > LARGEST {
+            return None;
         }
-        v = v * 10 + (d - 48);
-        if 65535 < v {
-            return Number::Not;
-        }
-        i += 1;
     }
-    Number::Is(v)
+    Some(v)
 }
 
 // Puts a byte at a place, if the buffer reaches so far: the place past it.
@@ -67,10 +56,8 @@ pub fn put_bytes(out: &mut [u8], at: usize, bytes: &[u8]) -> usize
     ensures out_after { out.new ≡ laid at bytes.now out.old }
 {
     let mut to = at;
-    let mut i = 0;
-    while i < bytes.len() {
-        to = put(out, to, bytes[i]);
-        i += 1;
+    for &byte in bytes {
+        to = put(out, to, byte);
     }
     to
 }
@@ -81,8 +68,8 @@ pub fn put_number(out: &mut [u8], at: usize, v: usize) -> usize
     ensures out_after { out.new ≡ laid at (shown v) out.old }
 {
     if v < 10 {
-        return put(out, at, (48 + v) as u8);
+        return put(out, at, b'0' + v as u8);
     }
     let past = put_number(out, at, v / 10);
-    put(out, past, (48 + v % 10) as u8)
+    put(out, past, b'0' + (v % 10) as u8)
 }

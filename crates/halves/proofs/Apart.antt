@@ -1,5 +1,5 @@
 -- No step leads from one of Spoiler's positions to another of them, or from one of Duplicator's to another.
-use native.Mathlib.Omega.{arith}
+use Rattle.std.proofs.Common.{arith}
 use Rattle.games.specs.Half.{Apart}
 use Rattle.automaton.specs.declared.Mode.{Mode}
 use Rattle.automaton.specs.Board.{Board, accepts, Formed}

@@ -1,15 +1,8 @@
 -- Words as they are drawn: the accepting states mark by mark, and the moves one by one.
-use mathlib.Core.Path.{◌≡◌, refl, sym, ap, ◌∙◌}
-use mathlib.Core.Logic.{◌≢◌, ◌⊎◌, inl, inr}
-use mathlib.Core.List.{List}
-use Prim.Native.Nat.{ℕ, zero, suc, ◌+◌, ◌*◌, ◌/◌, ◌%◌, ◌≤◌, ◌<◌}
+use Rattle.std.proofs.Common.{◌≡◌, refl, sym, ap, ◌∙◌, ◌≢◌, ◌⊎◌, inl, inr, List, ◌++◌, ℕ, zero, suc, ◌+◌, ◌*◌, ◌/◌, ◌%◌, ◌≤◌, ◌<◌, eqb, length, get_or, set, replicate, length-set, length-append, get_or-set_same, get_or-set_other, get_or-append-add, eq-eqb, ne_eqb, arith}
 use native.Mathlib.Decide.{ℕ_discrete}
-use native.Mathlib.Omega.{arith}
-use borrow.Author.Tests.{eq-eqb, ne_eqb}
 use lib.Arith.{digits_div, digits_mod}
-use lib.Dec.{eqb}
-use lib.ListN.{length, get_or, set, replicate, length-set}
-use lib.Seq.{get_or-set_same, get_or-set_other}
+use Rattle.std.proofs.Math.ListN.{get_or-append}
 use Rattle.games.specs.Game.{at}
 use Rattle.words.specs.Word.{dig, In, With}
 use Rattle.words.proofs.Sets.{in_or-out, empty, with_cases, with_old}
@@ -116,6 +109,58 @@ DrawnInto k ms i sets = Drawn (λ j. to ms j * k + letter ms j) (from ms) i sets
 -- of each of the first i moves, `to` is put into the word of `from` and the letter
 abbrev pub DrawnOnto : (k : ℕ) (moves : List ℕ) (i : ℕ) (sets : List ℕ) → Type 0
 DrawnOnto k ms i sets = Drawn (λ j. from ms j * k + letter ms j) (to ms) i sets
+
+-- so are some first moves, and the others are left
+pub record Drawing (k : ℕ) (moves rest into onto : List ℕ) : Type 0 where
+  pub count : ℕ
+  pub whole : count * 3 + length rest ≡ length moves
+  pub left : (j : ℕ) → get_or rest j 0 ≡ get_or moves (count * 3 + j) 0
+  pub befores : DrawnInto k moves count into
+  pub afters : DrawnOnto k moves count onto
+
+module _ (k : ℕ) (ms : List ℕ) where
+  pub drawing-start : {into onto rest : List ℕ} → rest ≡ ms → Empty into → Empty onto → Drawing k ms rest into onto
+  drawing-start {into} {onto} {rest} all e f = record {
+    count = 0;
+    whole = omega (arith, ap length all);
+    left = λ j. ap (λ (xs : List ℕ). get_or xs j 0) all ∙ ap (λ (i : ℕ). get_or ms i 0) (omega arith);
+    befores = drawn-none (λ j. to ms j * k + letter ms j) (from ms) into e;
+    afters = drawn-none (λ j. from ms j * k + letter ms j) (to ms) onto f;
+  }
+
+  module _ {rest into onto : List ℕ} (step left : List ℕ) (d : Drawing k ms rest into onto) (cut : rest ≡ step ++ left) (three : length step ≡ 3) where
+    read : (j : ℕ) → get_or (step ++ left) j 0 ≡ get_or ms (d.count * 3 + j) 0
+    read j = sym (ap (λ (xs : List ℕ). get_or xs j 0) cut) ∙ d.left j
+
+    of : (j i : ℕ) → j < 3 → i ≡ d.count * 3 + j → get_or step j 0 ≡ get_or ms i 0
+    of j i h e = sym (get_or-append step left 0 j (omega arith)) ∙ read j ∙ ap (λ (i : ℕ). get_or ms i 0) (sym e)
+
+    rest-whole : (d.count + 1) * 3 + length left ≡ length ms
+    rest-whole = omega (arith, d.whole, ap length cut, length-append step left)
+
+    -- the numbers of the next move, as the code reads them
+    module _ {x y z : ℕ} (ex : x ≡ get_or step 0 0) (ey : y ≡ get_or step 1 0) (ez : z ≡ get_or step 2 0) where
+      is-from : x ≡ from ms d.count
+      is-from = ex ∙ of 0 (d.count * 3) (omega arith) (omega arith)
+
+      is-letter : y ≡ letter ms d.count
+      is-letter = ey ∙ of 1 (d.count * 3 + 1) (omega arith) (omega arith)
+
+      is-to : z ≡ to ms d.count
+      is-to = ez ∙ of 2 (d.count * 3 + 2) (omega arith) (omega arith)
+
+      -- they are those of a move within the limits
+      pub step-within : {n : ℕ} → ((i : ℕ) → i * 3 + 2 < length ms → (from ms i < n) × (letter ms i < k) × (to ms i < n)) → (x < n) × (y < k) × (z < n)
+      step-within inside = rw (is-from, is-letter, is-to) (inside d.count (omega (arith, rest-whole)))
+
+      pub drawing-more : {into' onto' : List ℕ} → Inserted into (z * k + y) x into' → Inserted onto (x * k + y) z onto' → Drawing k ms left into' onto'
+      drawing-more {into'} {onto'} before after = record {
+        count = d.count + 1;
+        whole = rest-whole;
+        left = λ j. sym (get_or-append-add step left j 0) ∙ read (length step + j) ∙ ap (λ (i : ℕ). get_or ms i 0) (omega arith);
+        befores = drawn-more (λ j. to ms j * k + letter ms j) (from ms) d.count (z * k + y) x into into' (λ t. is-to t * k + is-letter t) is-from d.befores before;
+        afters = drawn-more (λ j. from ms j * k + letter ms j) (to ms) d.count (x * k + y) z onto onto' (λ t. is-from t * k + is-letter t) is-to d.afters after;
+      }
 
 -- the digits of a word's number
 two_digits : {k a b c d : ℕ} → b < k → d < k → a * k + b ≡ c * k + d → (a ≡ c) × (b ≡ d)

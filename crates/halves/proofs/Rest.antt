@@ -1,10 +1,6 @@
 -- From sweep to sweep: after a whole sweep Spoiler's positions may be raised by marked entries alone, and after Spoiler's half Duplicator's by noted ones.
-use mathlib.Core.Path.{◌≡◌, ap, subst}
-use mathlib.Core.Logic.{◌≢◌, ◌⊎◌, inl, inr}
-use mathlib.Core.List.{List, Memᴰ}
-use Prim.Native.Nat.{ℕ, ◌≤◌, ◌<◌}
-use native.Mathlib.Nat.{le_trans}
-use native.Mathlib.Omega.{arith}
+use Rattle.std.proofs.Common.{◌≡◌, ap, subst, ◌≢◌, ◌⊎◌, inl, inr, List, ℕ, ◌≤◌, ◌<◌, le_trans, arith}
+use mathlib.Core.List.{Memᴰ}
 use native.Mathlib.Decide.{dec_le}
 use Rattle.games.specs.Game.{Kind, low, ask, asked, lowest, at}
 use Rattle.games.specs.Half.{Halved}

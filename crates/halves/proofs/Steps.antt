@@ -1,11 +1,7 @@
 -- The steps and the kind of each position, by its parts: a step for each move, and no other.
-use mathlib.Core.Path.{◌≡◌, sym, ap, ◌∙◌}
-use mathlib.Core.Logic.{◌≢◌}
-use mathlib.Core.Bool.{Bool}
+use Rattle.std.proofs.Common.{◌≡◌, sym, ap, ◌∙◌, ◌≢◌, Bool, map, ℕ, ◌<◌, arith}
+use mathlib.Core.List.{Memᴰ}
 use mathlib.Core.List.Memᴰ
-use mathlib.Core.List.{map, Memᴰ}
-use Prim.Native.Nat.{ℕ, ◌<◌}
-use native.Mathlib.Omega.{arith}
 use Rattle.games.specs.Game.{Kind, low, ask, asked, lowest}
 use Rattle.automaton.specs.declared.Mode.{Mode}
 use Rattle.automaton.specs.Board.{Board, accepts, Formed}

@@ -1,12 +1,7 @@
 -- When `read` accepts: a text of the grammar within the limits, and room for its marks and moves. What it then gives, and what a refused call leaves.
-use mathlib.Core.Path.{◌≡◌, refl, sym, ap, ◌∙◌}
+use Rattle.std.proofs.Common.{◌≡◌, refl, sym, ap, ◌∙◌, ◌≢◌, ◌↔◌, List, [], ◌∷◌, ℕ, ◌≤◌, ◌<◌, arith, leb-false, length}
 use mathlib.Core.Logic.Iff
-use mathlib.Core.Logic.{◌≢◌, ◌↔◌}
-use mathlib.Core.List.{List, [], ◌∷◌}
-use Prim.Native.Nat.{ℕ, ◌≤◌, ◌<◌}
-use native.Mathlib.Omega.{arith}
-use borrow.Author.Tests.{leb-false, lt-leb}
-use lib.ListN.{length}
+use Rattle.std.proofs.lemmas.Bool.{lt-leb}
 use Rattle.automaton.specs.declared.Refusal.{Refusal}
 use Rattle.automaton.specs.declared.Refusal.TheVariants.{Start, OutputLength, ProgramLimits, TooLong}
 use Rattle.automaton.specs.Answer.{Answer, Fault, first_fault}

@@ -1,11 +1,7 @@
 -- Edges lead along a triple exactly if one of them has its states and a label that holds of its letter.
-use mathlib.Core.Path.{◌≡◌, refl, ap, subst, ◌∙◌}
-use mathlib.Core.Logic.{◌↔◌}
-use mathlib.Core.Bool.{Bool, true, false, ◌&&◌, ◌||◌, false≢true, and-eq-true_iff, or-true}
-use mathlib.Core.List.{List, [], ◌∷◌, Memᴰ}
-use Prim.Native.Nat.{ℕ}
-use borrow.Author.Tests.{eqb-true, eq-eqb}
-use lib.Dec.{eqb}
+use Rattle.std.proofs.Common.{◌≡◌, refl, ap, subst, ◌∙◌, ◌↔◌, Bool, true, false, ◌&&◌, ◌||◌, List, [], ◌∷◌, ℕ, eqb-true, eq-eqb, eqb}
+use Rattle.std.proofs.Math.Bool.{false≢true, and-eq-true_iff, or-true}
+use mathlib.Core.List.{Memᴰ}
 use Rattle.labels.specs.Label.{holds}
 use Rattle.bodies.specs.Body.{Edge, leads_by, leads}
 

@@ -1,6 +1,5 @@
 -- Reading comes to a file exactly where the format writes it.
-use mathlib.Core.Logic.{◌↔◌}
-use Prim.Native.Nat.{ℕ}
+use Rattle.std.proofs.Common.{◌↔◌, ℕ}
 use Rattle.tokens.specs.declared.Token.{Token}
 use Rattle.headers.proofs.Exact.{header_read, read-header}
 use Rattle.bodies.proofs.Exact.{body-read, read-body}

@@ -1,16 +1,11 @@
 -- The promise of `read` leaves no choice: a text comes to one outcome, two results that meet the promise coincide,
 -- and two results with the same number, place and values are the same.
-use mathlib.Core.Path.{◌≡◌, refl, sym, ap, subst, ◌∙◌}
-use mathlib.Core.List.{List, []}
-use Prim.Native.Nat.{ℕ}
-use native.Mathlib.Omega.{arith}
-use lib.ListN.{get_or}
-use Rattle.automaton.specs.Answer.{Answer}
-use Rattle.automaton.proofs.One.{one-refusal, refused-not}
+use Rattle.std.proofs.Common.{◌≡◌, refl, sym, ap, subst, ◌∙◌, List, [], ℕ, get_or, Result, Ok, Err, arith}
+use Rattle.automaton.specs.Answer.{Answer, answered}
+use Rattle.automaton.specs.declared.Refusal.{Refusal}
+use Rattle.automaton.proofs.One.{one-answered}
 use Rattle.tokens.specs.declared.Token.{Token}
 use Rattle.headers.specs.declared.Header.{Header}
-use Rattle.headers.specs.declared.Headed.{Headed}
-use Rattle.headers.specs.declared.Headed.TheVariants as headed
 use Rattle.headers.specs.declared.Wanted.TheVariants.{Format}
 use Rattle.headers.specs.Header.{unsaid}
 use Rattle.headers.specs.Walk as header
@@ -22,7 +17,6 @@ use Rattle.bodies.proofs.One as body-one
 use Rattle.text.specs.Calls.{Lent}
 use Rattle.hanoi.specs.declared.Limits.{Limits}
 use Rattle.hanoi.specs.declared.Reading.{Reading}
-use Rattle.hanoi.specs.declared.Reading.TheVariants.{Held, Refused}
 use Rattle.hanoi.specs.Answers.{of_reading}
 use Rattle.hanoi.specs.Calls.{reading, Reads, too_long, read}
 use Rattle.hanoi.specs.Reading.{Outcome, whole, refused, Comes, in_header, in_body, to_end}
@@ -36,24 +30,24 @@ behind h (body.refused r) = refused r
 
 module _ (T : ℕ → Token) where
   -- the same by what the header comes to
-  abbrev After : Headed → Outcome → Type 0
-  After (headed.Refused r) o = refused r ≡ o
-  After (headed.Held h j) o = (b : body.Outcome) × body.Walk T h.states h.props Block blank [] j b × (behind h b ≡ o)
+  abbrev After : header.Outcome → Outcome → Type 0
+  After (Err r) o = refused r ≡ o
+  After (Ok x) o = (b : body.Outcome) × body.Walk T x.header.states x.header.props Block blank [] x.next b × (behind x.header b ≡ o)
 
-  after : {o : Outcome} → Comes T o → (r : Headed) × header.Walk T Format unsaid 0 r × After r o
-  after (in_header {r = r} w) = (headed.Refused r, w, refl)
-  after (in_body {h = h} {j = j} {r = r} w v) = (headed.Held h j, w, (body.refused r, v, refl))
-  after (to_end {h = h} {j = j} {sheet = s} {es = es} w v) = (headed.Held h j, w, (body.held s es, v, refl))
+  after : {o : Outcome} → Comes T o → (r : header.Outcome) × header.Walk T Format unsaid 0 r × After r o
+  after (in_header {r = r} w) = (Err r, w, refl)
+  after (in_body {h = h} {j = j} {r = r} w v) = (header.held h j, w, (body.refused r, v, refl))
+  after (to_end {h = h} {j = j} {sheet = s} {es = es} w v) = (header.held h j, w, (body.held s es, v, refl))
 
-  after_one : {o o' : Outcome} (r : Headed) → After r o → After r o' → o ≡ o'
-  after_one (headed.Refused r) a b = sym a ∙ b
-  after_one (headed.Held h j) (b, w, e) (c, v, d) = sym e ∙ ap (behind h) (body-one.walk_one T h.states h.props w v) ∙ d
+  after_one : {o o' : Outcome} (r : header.Outcome) → After r o → After r o' → o ≡ o'
+  after_one (Err r) a b = sym a ∙ b
+  after_one (Ok x) (b, w, e) (c, v, d) = sym e ∙ ap (behind x.header) (body-one.walk_one T x.header.states x.header.props w v) ∙ d
 
 pub comes_one : {T : ℕ → Token} {o o' : Outcome} → Comes T o → Comes T o' → o ≡ o'
 comes_one {T} {o} {o'} a b =
     let (r, w, k) = after T a in
     let (s, v, l) = after T b in
-    after_one T r k (subst (λ (r : Headed). After T r o') (header-one.walk_one T v w) l)
+    after_one T r k (subst (λ (r : header.Outcome). After T r o') (header-one.walk_one T v w) l)
 
 pub reads_one : {s : List ℕ} {b : Limits} {x : Lent} {a c : Answer} {l m : Lent} → Reads s b x a l → Reads s b x c m → (a ≡ c) × (l ≡ m)
 reads_one (too_long h e d) (too_long k f g) = (e ∙ sym f, d ∙ sym g)
@@ -70,11 +64,11 @@ value : Answer → ℕ → ℕ
 value a i = get_or a.values i 0
 
 held_by : Answer → Reading
-held_by a = Held (record { states = value a 0; letters = value a 1; start = value a 2 }) (value a 3)
+held_by a = record { automaton = record { states = value a 0; letters = value a 1; start = value a 2 }; moves = value a 3 }
 
-pub one-reading : (r s : Reading) → of_reading r ≡ of_reading s → r ≡ s
+one-told : (r s : Reading) → of_reading r ≡ of_reading s → r ≡ s
 unfolding held_by value
-one-reading (Held a c) (Held b d) e = ap held_by e
-one-reading (Held a c) (Refused s) e = absurd (refused-not s (of_reading (Held a c)) refl (sym e))
-one-reading (Refused r) (Held b d) e = absurd (refused-not r (of_reading (Held b d)) refl e)
-one-reading (Refused r) (Refused s) e = ap Refused (one-refusal r s e)
+one-told r s e = ap held_by e
+
+pub one-reading : (r s : Result Reading Refusal) → answered of_reading r ≡ answered of_reading s → r ≡ s
+one-reading = one-answered of_reading (λ r. refl) one-told

@@ -1,11 +1,5 @@
 -- The place that `read` answers lies in the text or at its end.
-use mathlib.Core.Path.{refl, ap}
-use mathlib.Core.Bool.{◌||◌}
-use mathlib.Core.List.{List, [], ◌∷◌}
-use Prim.Native.Nat.{ℕ, ◌≤◌}
-use native.Mathlib.Omega.{arith}
-use lib.Dec.{ltb, leb}
-use lib.ListN.{length}
+use Rattle.std.proofs.Common.{refl, ap, ◌||◌, List, [], ◌∷◌, ℕ, ◌≤◌, arith, ltb, leb, length}
 use Rattle.automaton.specs.declared.Refusal.{Refusal}
 use Rattle.automaton.specs.declared.Refusal.TheVariants.{States, Letters, Start, OutputLength, ProgramLimits}
 use Rattle.automaton.specs.Answer.{Answer, place_of, Fault, none, fault, first_fault}

@@ -10,7 +10,6 @@ use Rattle.automaton.specs.Limits.{most_states}
 use Rattle.tokens.specs.Tokens.{token_from}
 use Rattle.text.specs.Calls.{Lent, before}
 use Rattle.hanoi.specs.declared.Limits.{Limits}
-use Rattle.hanoi.specs.declared.Reading.TheVariants.{Held}
 use Rattle.hanoi.specs.Answers.{of_reading}
 use Rattle.hanoi.specs.File.{File, IsFile, letters_in, automaton_in, marks_in, moves_in}
 use Rattle.hanoi.specs.Reading.{Outcome, whole, refused, Comes}
@@ -38,7 +37,7 @@ short_fault f x = fails (ltb (length x.marks) f.header.states || ltb (length x.m
 
 -- the answer of an accepted call
 abbrev pub held : File → Answer
-held f = of_reading (Held (automaton_in f) (length (moves_in f) / 3))
+held f = of_reading (record { automaton = automaton_in f; moves = length (moves_in f) / 3 })
 
 -- what `read` answers and leaves, by what reading comes to
 unfoldable pub reading : Limits → Outcome → Lent → Effect Lent

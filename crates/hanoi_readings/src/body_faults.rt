@@ -1,15 +1,13 @@
 // Bodies that are refused with 23 or 24, at the place of the first token that cannot stand.
 use super::listed::try_list;
-use super::printed::print;
-use super::tried::program;
+use super::tried::PROGRAM;
 use std::io;
 
 // Two states and two propositions.
-const HEADER: [u8; 71] =
-    *b"HOA: v1 States: 2 Start: 0 AP: 2 \"a\" \"b\" Acceptance: 1 Inf(0) --BODY-- ";
+const HEADER: &str = "HOA: v1 States: 2 Start: 0 AP: 2 \"a\" \"b\" Acceptance: 1 Inf(0) --BODY-- ";
 
 // States, edges and the end.
-const STATES: [u8; 860] = *b"an edge before a state\t[0] 0 --END--
+const STATES: &str = "an edge before a state\t[0] 0 --END--
 a label on a state\tState: [0] 0 1 --END--
 a state too large\tState: 2 --END--
 a state listed twice\tState: 1 State: 0 State: 1 --END--
@@ -35,7 +33,7 @@ half an end\tState: 0 --END
 ";
 
 // Labels.
-const LABELS: [u8; 1021] = *b"a proposition too large\tState: 0 [2] 0 --END--
+const LABELS: &str = "a proposition too large\tState: 0 [2] 0 --END--
 an alias\tState: 0 [@a] 0 --END--
 an empty label\tState: 0 [] 0 --END--
 two propositions\tState: 0 [0 1] 0 --END--
@@ -58,7 +56,7 @@ a bracket closed 16 deep\tState: 0 [(((((((((((((((()
 ";
 
 pub fn run(rt: &impl Print) -> io::Result<()> {
-    print(rt, b"bodies\n")?;
-    try_list(rt, &STATES, &HEADER, program())?;
-    try_list(rt, &LABELS, &HEADER, program())
+    println!(rt; "bodies")?;
+    try_list(rt, STATES, HEADER, PROGRAM)?;
+    try_list(rt, LABELS, HEADER, PROGRAM)
 }

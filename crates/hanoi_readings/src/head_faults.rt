@@ -1,11 +1,10 @@
 // Headers that are refused with 23, at the place of the first token that cannot stand.
 use super::listed::try_list;
-use super::printed::print;
-use super::tried::program;
+use super::tried::PROGRAM;
 use std::io;
 
 // What comes first.
-const FIRST: [u8; 356] = *b"nothing\t
+const FIRST: &str = "nothing\t
 white space\t /* */
 another version\tHOA: v2 States: 1 Start: 0 Acceptance: 1 Inf(0) --BODY-- --END--
 a point behind v1\tHOA: v1.1 States: 1 Start: 0 Acceptance: 1 Inf(0) --BODY-- --END--
@@ -14,7 +13,7 @@ another header\tStates: 1 HOA: v1 Start: 0 Acceptance: 1 Inf(0) --BODY-- --END--
 ";
 
 // Behind `HOA: v1`: a header that is missing or wrong.
-const REQUIRED: [u8; 1128] = *b"no States\tStart: 0 Acceptance: 1 Inf(0) --BODY-- --END--
+const REQUIRED: &str = "no States\tStart: 0 Acceptance: 1 Inf(0) --BODY-- --END--
 no Start\tStates: 1 Acceptance: 1 Inf(0) --BODY-- --END--
 no Acceptance\tStates: 1 Start: 0 --BODY-- --END--
 none of the three\t--BODY-- --END--
@@ -33,10 +32,10 @@ an acceptance that goes on\tStates: 1 Start: 0 Acceptance: 1 Inf(0)|f --BODY-- -
 ";
 
 // The three required headers, rightly.
-const WHOLE: [u8; 48] = *b"HOA: v1 States: 1 Start: 0 Acceptance: 1 Inf(0) ";
+const WHOLE: &str = "HOA: v1 States: 1 Start: 0 Acceptance: 1 Inf(0) ";
 
 // Behind those: headers that cannot stand there.
-const MORE: [u8; 1062] = *b"States again\tStates: 1 --BODY-- --END--
+const MORE: &str = "States again\tStates: 1 --BODY-- --END--
 Start again\tStart: 0 --BODY-- --END--
 Acceptance again\tAcceptance: 1 Inf(0) --BODY-- --END--
 AP again\tAP: 0 AP: 0 --BODY-- --END--
@@ -62,8 +61,8 @@ no body\t
 ";
 
 pub fn run(rt: &impl Print) -> io::Result<()> {
-    print(rt, b"headers\n")?;
-    try_list(rt, &FIRST, b"", program())?;
-    try_list(rt, &REQUIRED, b"HOA: v1 ", program())?;
-    try_list(rt, &MORE, &WHOLE, program())
+    println!(rt; "headers")?;
+    try_list(rt, FIRST, "", PROGRAM)?;
+    try_list(rt, REQUIRED, "HOA: v1 ", PROGRAM)?;
+    try_list(rt, MORE, WHOLE, PROGRAM)
 }

@@ -7,7 +7,6 @@ mod cuts; // cuts.rt: files cut short
 mod head_faults; // head_faults.rt: headers that are refused
 mod limits; // limits.rt: files of right form that are refused, and files at the limits
 mod listed; // listed.rt: files in a list
-mod printed; // printed.rt: writing to standard output
 mod reports; // reports.rt: what the relation programs print
 mod tried; // tried.rt: one file read, and what is printed of it
 mod writers; // writers.rt: files that are read

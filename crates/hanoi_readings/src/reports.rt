@@ -1,48 +1,29 @@
 // What the two relation programs print for an automaton given both ways: a line with the numbers of bytes that `report` wrote for
 // the Hanoi file and for the text, and whether the buffers are the same; then the bytes for the file.
-use super::printed::{print, print_number};
 use super::writers::{HAND, SPOT};
-use report::Reported;
 use std::io;
-
-// How many bytes a report has, and none if the buffer was too short.
-fn length_of(reported: Reported) -> usize {
-    match reported {
-        Reported::Bytes(bytes) => bytes,
-        Reported::Refused(_) => 0,
-    }
-}
-
-// Prints the bytes before a place.
-fn print_bytes(rt: &impl Print, bytes: &[u8], end: usize) -> io::Result<()> {
-    if end <= bytes.len() {
-        return print(rt, &bytes[0..end]);
-    }
-    Ok(())
-}
 
 // Reports on a file and on a text.
 fn try_both(rt: &impl Print, file: &[u8], text: &[u8]) -> io::Result<()> {
     let mut ours = [0u8; report::LONGEST];
     let mut theirs = [0u8; report::LONGEST];
-    let by_file = length_of(hanoi_report::report(file, &mut ours[..]));
-    let by_text = length_of(report::report(text, &mut theirs[..]));
-    print(rt, b"report")?;
-    print_number(rt, by_file)?;
-    print_number(rt, by_text)?;
-    if check::same(&ours[..], &theirs[..]) {
-        print(rt, b"\tthe same\n")?;
+    // no bytes if the buffer was too short
+    let by_file = hanoi_report::report(file, &mut ours).unwrap_or(0);
+    let by_text = report::report(text, &mut theirs).unwrap_or(0);
+    let compared = if ours == theirs {
+        "the same"
     } else {
-        print(rt, b"\tdifferent\n")?;
-    }
-    print_bytes(rt, &ours[..], by_file)
+        "different"
+    };
+    println!(rt; "report\t{by_file}\t{by_text}\t{compared}")?;
+    rt.write_all(ours.get(..by_file).unwrap_or(&[]))
 }
 
 // The automaton of the file `SPOT`.
 fn spot(rt: &impl Print) -> io::Result<()> {
     try_both(
         rt,
-        &SPOT,
+        SPOT,
         b"automaton\t2\t4\t0
 mode\t2
 accept\t0
@@ -62,7 +43,7 @@ move\t1\t3\t0
 fn hand(rt: &impl Print) -> io::Result<()> {
     try_both(
         rt,
-        &HAND,
+        HAND,
         b"automaton\t3\t8\t1
 mode\t2
 accept\t1
@@ -92,19 +73,14 @@ move\t2\t7\t0
 // A buffer a byte shorter than the longest report.
 fn too_short(rt: &impl Print) -> io::Result<()> {
     let mut out = [0u8; report::LONGEST - 1];
-    let reported = hanoi_report::report(&SPOT, &mut out[..]);
-    match reported {
-        Reported::Bytes(bytes) => print_number(rt, bytes)?,
-        Reported::Refused(refusal) => {
-            print(rt, b"refused")?;
-            print_number(rt, refusal.number())?;
-        }
+    match hanoi_report::report(SPOT, &mut out) {
+        Ok(bytes) => println!(rt; "\t{bytes}"),
+        Err(refusal) => println!(rt; "refused\t{}", refusal.number()),
     }
-    print(rt, b"\n")
 }
 
 pub fn run(rt: &impl Print) -> io::Result<()> {
-    print(rt, b"reports\n")?;
+    println!(rt; "reports")?;
     spot(rt)?;
     hand(rt)?;
     try_both(rt, b"", b"")?; // refused with 23 and with 20

@@ -1,11 +1,10 @@
 // Files that are read, in the style of the tools that write them.
 use super::listed::try_list;
-use super::printed::print;
-use super::tried::{program, try_program};
+use super::tried::{PROGRAM, try_program};
 use std::io;
 
 // As Spot's ltl2tgba -B writes them.
-pub const SPOT: [u8; 292] = *b"HOA: v1
+pub const SPOT: &[u8] = b"HOA: v1
 name: \"G(!request | Fgrant)\"
 States: 2
 Start: 0
@@ -24,7 +23,7 @@ State: 1
 --END--";
 
 // By hand: comments, headers in odd order, state 0 not listed, an edge that repeats moves and one without any.
-pub const HAND: [u8; 284] = *b"/* An automaton
+pub const HAND: &[u8] = b"/* An automaton
    /* by hand */ */
 HOA: v1 Acceptance: 1 Inf ( 0 )
 AP: 3 \"a \\\" b\" \"/* no comment\" \"\\\\\" /* , then */ Start:1
@@ -35,12 +34,11 @@ State:1\"{0}\" { 0 }
 [!!!(0&!(1&2))]2[f]0[t&t]1--END--";
 
 // Brackets as deep as they may be, closed and opened again.
-pub const DEEP: [u8; 179] =
-    *b"HOA: v1 States: 1 Start: 0 AP: 2 \"a\" \"b\" Acceptance: 1 Inf(0) --BODY--
+pub const DEEP: &[u8] = b"HOA: v1 States: 1 Start: 0 AP: 2 \"a\" \"b\" Acceptance: 1 Inf(0) --BODY--
 State: 0 [((((((((((((((((0&1))))))))))))))))|!(!(!(!(!(!(!(!(!(!(!(!(!(!(!(!(0|1))))))))))))))))] 0 --END--";
 
 // As LTL3BA writes them.
-const LTL3BA: [u8; 273] = *b"HOA: v1
+const LTL3BA: &[u8] = b"HOA: v1
 tool: \"LTL3BA\" \"1.1.3\"
 name: \"BA for <>[]a\"
 States: 2
@@ -59,7 +57,7 @@ State: 1 \"accept_S1\" {0}
 ";
 
 // As Owl writes them: the start first, states in the order in which they were found.
-const OWL: [u8; 376] = *b"HOA: v1
+const OWL: &[u8] = b"HOA: v1
 tool: \"owl\" \"21.0\"
 name: \"Automaton for GF(a & Xb)\"
 owlArgs: \"ltl2nba\" \"--state-acceptance\" \"-f\" \"G F (a & X b)\"
@@ -83,8 +81,8 @@ State: 1 \"{b}\"
 ";
 
 // A state for each way to bind: or, and, not, brackets; one with edges that repeat moves, and one without a move.
-const BINDINGS: [u8; 395] =
-    *b"HOA: v1 States: 11 Start: 0 AP: 3 \"a\" \"b\" \"c\" Acceptance: 1 Inf(0) --BODY--
+const BINDINGS: &[u8] =
+    b"HOA: v1 States: 11 Start: 0 AP: 3 \"a\" \"b\" \"c\" Acceptance: 1 Inf(0) --BODY--
 State: 0 [0 | 1 & 2] 0
 State: 1 [0 & 1 | 2] 0
 State: 2 [(0 | 1) & 2] 0
@@ -99,25 +97,25 @@ State: 10 [f | !t] 1
 --END--";
 
 // Small files, on one line each.
-const SMALL: [u8; 424] =
-    *b"no propositions\tHOA: v1 States: 2 Start: 1 Acceptance: 1 Inf(0) --BODY-- State: 1 {0} [t] 1 [t|f] 0 [f] 1 --END--
+const SMALL: &str =
+    "no propositions\tHOA: v1 States: 2 Start: 1 Acceptance: 1 Inf(0) --BODY-- State: 1 {0} [t] 1 [t|f] 0 [f] 1 --END--
 no states listed\tHOA: v1 States: 2 Start: 1 AP: 0 Acceptance: 1 Inf(0) --BODY-- --END--
 nothing where nothing need be\tHOA:v1/**/Start:0 States:1 AP:1\"\"Acceptance:1Inf(0)--BODY--State:0\"\"{0}[0]0[!0]0--END--/* */
 carriage returns\tHOA:\rv1\r\rStates:\r1\rStart:\r0\rAcceptance:\r1\rInf(0)\r--BODY--\rState:\r0\r[t]\r0\r--END--\r
 ";
 
 pub fn run(rt: &impl Print) -> io::Result<()> {
-    print(rt, b"files\nSpot\t")?;
-    try_program(rt, &SPOT)?;
-    print(rt, b"LTL3BA\t")?;
-    try_program(rt, &LTL3BA)?;
-    print(rt, b"Owl\t")?;
-    try_program(rt, &OWL)?;
-    print(rt, b"by hand\t")?;
-    try_program(rt, &HAND)?;
-    print(rt, b"16 deep\t")?;
-    try_program(rt, &DEEP)?;
-    print(rt, b"binding\t")?;
-    try_program(rt, &BINDINGS)?;
-    try_list(rt, &SMALL, b"", program())
+    print!(rt; "files\nSpot\t")?;
+    try_program(rt, SPOT)?;
+    print!(rt; "LTL3BA\t")?;
+    try_program(rt, LTL3BA)?;
+    print!(rt; "Owl\t")?;
+    try_program(rt, OWL)?;
+    print!(rt; "by hand\t")?;
+    try_program(rt, HAND)?;
+    print!(rt; "16 deep\t")?;
+    try_program(rt, DEEP)?;
+    print!(rt; "binding\t")?;
+    try_program(rt, BINDINGS)?;
+    try_list(rt, SMALL, "", PROGRAM)
 }

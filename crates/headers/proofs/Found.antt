@@ -1,162 +1,171 @@
 -- What is read is a header as the format writes it: by what is wanted, what stands from there on where reading ends well.
-use mathlib.Core.Path.{◌≡◌, refl, sym, subst}
-use mathlib.Core.Bool.{Bool, true, false, cond, ◌&&◌, and-eq-true_iff}
-use Prim.Native.Nat.{ℕ, zero, suc, ◌≤◌}
-use lib.Dec.{eqb, leb}
-use borrow.Author.Tests.{eqb-true, leb-true}
+use Rattle.std.proofs.Common.{◌≡◌, refl, sym, subst, Bool, true, false, cond, ℕ, zero, suc, ◌≤◌, eqb, leb, Option, Some, None, is_some, eqb-true, leb-true}
+use Rattle.std.specs.Option.{unwrap_or}
+use Rattle.tokens.specs.declared.Sort.{Sort}
+use Rattle.tokens.specs.declared.Sort.TheVariants as sort
 use Rattle.tokens.specs.declared.Token.{Token}
-use Rattle.tokens.specs.Sorts as sort
 use Rattle.tokens.specs.Here.{Here}
+use Rattle.tokens.specs.Sorts.{plain}
 use Rattle.headers.specs.declared.Header.{Header}
-use Rattle.headers.specs.declared.Headed.TheVariants.{Held}
 use Rattle.headers.specs.declared.Next.{Next}
-use Rattle.headers.specs.declared.Next.TheVariants.{To, Body, Nowhere}
+use Rattle.headers.specs.declared.Next.TheVariants.{To, Body}
+use Rattle.headers.specs.declared.Said.{Said}
 use Rattle.headers.specs.declared.Wanted.{Wanted}
 use Rattle.headers.specs.declared.Wanted.TheVariants as wanted
 use Rattle.headers.specs.Header.{with_states, with_start, with_props, with_acceptance, most_props, Whole, Names, no_name, name, Values, no_value, value, Acceptance, Item, states, start, props, acceptance, skipped, Items, no_item, item}
-use Rattle.headers.specs.Stands.{only, exactly, once, whole, names_after, props_next, item as item_of, step}
-use Rattle.headers.specs.Walk.{Walk, goes, over}
+use Rattle.headers.specs.Stands.{exactly, onto, once, required, whole, names_after, item as item_of, step}
+use Rattle.headers.specs.Walk.{Walk, held, goes, over}
 
 module _ (T : ℕ → Token) (m : Header) (j : ℕ) where
   -- headers up to `--BODY--`
-  pub record Rest (h : Header) (i : ℕ) : Type 0 where
+  pub record Rest (s : Said) (i : ℕ) : Type 0 where
     pub end : ℕ
-    pub items : Items T h i m end
-    pub whole : Whole m
-    pub body : Here T end sort.body j
+    pub said : Said
+    pub items : Items T s i said end
+    pub whole : Whole said m
+    pub body : Here T end sort.Body j
 
   -- a token of a sort, and behind it what P says
-  abbrev pub Then : (i sort : ℕ) → (P : ℕ → Type 0) → Type 0
+  abbrev pub Then : (i : ℕ) → Sort → (P : ℕ → Type 0) → Type 0
   Then i k P = ((T i).sort ≡ k) × P (T i).next
 
   -- so many names, and the headers behind them
-  abbrev pub Named : (c : ℕ) → Header → (i : ℕ) → Type 0
-  Named c h i = (g : ℕ) × Names T c i g × Rest h g
+  abbrev pub Named : (c : ℕ) → Said → (i : ℕ) → Type 0
+  Named c s i = (g : ℕ) × Names T c i g × Rest s g
 
   -- `1 Inf(0)` from each of its tokens on, and the headers behind it
-  abbrev pub Closed : Header → (i : ℕ) → Type 0
-  Closed h i = Then i sort.group_end (Rest (with_acceptance h))
+  abbrev pub Closed : Said → (i : ℕ) → Type 0
+  Closed s i = Then i sort.GroupEnd (Rest (with_acceptance s))
 
-  abbrev pub Zeroed : Header → (i : ℕ) → Type 0
-  Zeroed h i = ((T i).value ≡ 0) × Then i sort.number (Closed h)
+  abbrev pub Zeroed : Said → (i : ℕ) → Type 0
+  Zeroed s i = Then i (sort.Number 0) (Closed s)
 
-  abbrev pub Opened : Header → (i : ℕ) → Type 0
-  Opened h i = Then i sort.group (Zeroed h)
+  abbrev pub Opened : Said → (i : ℕ) → Type 0
+  Opened s i = Then i sort.Group (Zeroed s)
 
-  abbrev pub Infinite : Header → (i : ℕ) → Type 0
-  Infinite h i = Then i sort.inf (Opened h)
+  abbrev pub Infinite : Said → (i : ℕ) → Type 0
+  Infinite s i = Then i sort.Inf (Opened s)
 
-  abbrev pub Counted : Header → (i : ℕ) → Type 0
-  Counted h i = ((T i).value ≡ 1) × Then i sort.number (Infinite h)
+  abbrev pub Counted : Said → (i : ℕ) → Type 0
+  Counted s i = Then i (sort.Number 1) (Infinite s)
 
-  -- what stands from i on where w is wanted and h has been said
-  abbrev pub Standing : Wanted → Header → (i : ℕ) → Type 0
-  Standing wanted.Format h i = Then i sort.hoa (λ g. Then g sort.version (Rest h))
-  Standing wanted.Version h i = Then i sort.version (Rest h)
-  Standing wanted.Item h i = Rest h i
-  Standing wanted.Value h i = (g : ℕ) × Values T i g × Rest h g
-  Standing wanted.States h i = Then i sort.number (Rest (with_states h (T i).value))
-  Standing wanted.Start h i = Then i sort.number (Rest (with_start h (T i).value))
-  Standing wanted.Props h i = ((T i).value ≤ most_props) × Then i sort.number (Named (T i).value (with_props h (T i).value))
-  Standing (wanted.Names c) h i = Named (suc c) h i
-  Standing wanted.Sets h i = Counted h i
-  Standing wanted.Inf h i = Infinite h i
-  Standing wanted.Opening h i = Opened h i
-  Standing wanted.Zero h i = Zeroed h i
-  Standing wanted.Closing h i = Closed h i
+  -- a number, and behind it what P says of it
+  abbrev pub Said-number : (i : ℕ) → (P : (v i : ℕ) → Type 0) → Type 0
+  Said-number i P = (v : ℕ) × Then i (sort.Number v) (P v)
+
+  -- what stands from i on where w is wanted and s has been said
+  abbrev pub Standing : Wanted → Said → (i : ℕ) → Type 0
+  Standing wanted.Format s i = Then i sort.Hoa (λ g. Then g sort.Version (Rest s))
+  Standing wanted.Version s i = Then i sort.Version (Rest s)
+  Standing wanted.Item s i = Rest s i
+  Standing wanted.Value s i = (g : ℕ) × Values T i g × Rest s g
+  Standing wanted.States s i = Said-number i (λ n. Rest (with_states s n))
+  Standing wanted.Start s i = Said-number i (λ q. Rest (with_start s q))
+  Standing wanted.Props s i = Said-number i (λ p g. (p ≤ most_props) × Named p (with_props s p) g)
+  Standing (wanted.Names c) s i = Named (suc c) s i
+  Standing wanted.Sets s i = Counted s i
+  Standing wanted.Inf s i = Infinite s i
+  Standing wanted.Opening s i = Opened s i
+  Standing wanted.Zero s i = Zeroed s i
+  Standing wanted.Closing s i = Closed s i
 
   -- what stands at i behind a token that led there
-  abbrev Led : Next → (i : ℕ) → Type 0
-  Led (To v g) i = Standing v g i
-  Led (Body g) i = (g ≡ m) × (i ≡ j)
-  Led Nowhere i = ⊥
+  abbrev pub Led : Option Next → (i : ℕ) → Type 0
+  Led (Some (To v t)) i = Standing v t i
+  Led (Some (Body h)) i = (h ≡ m) × (i ≡ j)
+  Led None i = ⊥
 
   -- which of two a test led to
-  either : {R : Type 0} (b : Bool) (n o : Next) (i : ℕ) → (b ≡ true → Led n i → R) → (Led o i → R) → Led (cond b n o) i → R
+  either : {R : Type 0} (b : Bool) (n o : Option Next) (i : ℕ) → (b ≡ true → Led n i → R) → (b ≡ false → Led o i → R) → Led (cond b n o) i → R
   either true n o i f g l = f refl l
-  either false n o i f g l = g l
+  either false n o i f g l = g refl l
 
-  passed : (b : Bool) (n : Next) (i : ℕ) → Led (cond b n Nowhere) i → (b ≡ true) × Led n i
-  passed b n i = either b n Nowhere i (λ e l. (e, l)) absurd
+  passed : (b : Bool) (n : Option Next) (i : ℕ) → Led (cond b n None) i → (b ≡ true) × Led n i
+  passed b n i = either b n None i (λ e l. (e, l)) (λ e l. absurd l)
 
   -- a header that may stand once stood for the first time
-  first : (b : Bool) (w : Wanted) (h : Header) (i : ℕ) → Led (once b w h) i → (b ≡ false) × Standing w h i
-  first true w h i l = absurd l
-  first false w h i l = (refl, l)
+  first : (b : Bool) (w : Wanted) (s : Said) (i : ℕ) → Led (once b w s) i → (b ≡ false) × Standing w s i
+  first b w s i = either b None (onto w s) i (λ e l. absurd l) (λ e l. (e, l))
 
-  named : (c : ℕ) (h : Header) (i : ℕ) → Standing (names_after c) h i → Named c h i
-  named zero h i l = (i, no_name, l)
-  named (suc c) h i l = l
+  unsaid : (x : Option ℕ) → is_some x ≡ false → x ≡ None
+  unsaid None e = refl
+  unsaid (Some v) e = absurd (cc)
+
+  named : (c : ℕ) (s : Said) (i : ℕ) → Standing (names_after c) s i → Named c s i
+  named zero s i l = (i, no_name, l)
+  named (suc c) s i l = l
 
   -- `1 Inf(0)` whole
-  accepted : (h : Header) (i : ℕ) → Counted h i → (g : ℕ) × Acceptance T i g × Rest (with_acceptance h) g
-  accepted h i l =
-      let inf = l.1.1 in
+  accepted : (s : Said) (i : ℕ) → Counted s i → (g : ℕ) × Acceptance T i g × Rest (with_acceptance s) g
+  accepted s i l =
+      let inf = l.1 in
       let opens = inf.1 in
       let none = opens.1 in
-      let closes = none.1.1 in
-      (_, record { after-sets = _; after-inf = _; after_open = _; after-zero = _; sets = ((l.1.0, refl), l.0); inf = (inf.0, refl); opens = (opens.0, refl); zero = ((none.1.0, refl), none.0); closes = (closes.0, refl) }, closes.1)
+      let closes = none.1 in
+      (_, record { after-sets = _; after-inf = _; after_open = _; after-zero = _; sets = (l.0, refl); inf = (inf.0, refl); opens = (opens.0, refl); zero = (none.0, refl); closes = (closes.0, refl) }, closes.1)
 
   -- one header more
-  more : {h k : Header} {i g : ℕ} → Item T h i k g → Rest k g → Rest h i
-  more x l = record { end = l.end; items = item x l.items; whole = l.whole; body = l.body }
+  more : {s t : Said} {i g : ℕ} → Item T s i t g → Rest t g → Rest s i
+  more x l = record { end = l.end; said = l.said; items = item x l.items; whole = l.whole; body = l.body }
 
-  -- no header more
-  ended : (h : Header) (i : ℕ) → (T i).sort ≡ sort.body → Led (whole h) (T i).next → Rest h i
-  ended h i e l =
-      let p = passed _ (Body h) _ l in
-      let a = (and-eq-true_iff h.counted (h.started && h.accepting)).0 p.0 in
-      let b = (and-eq-true_iff h.started h.accepting).0 a.1 in
-      record { end = i; items = subst (λ k. Items T h i k i) p.1.0 no_item; whole = subst Whole p.1.0 (record { states = a.0; start = b.0; acceptance = b.1 }); body = (e, p.1.1) }
+  module _ (s : Said) (i : ℕ) where
+    -- no header more
+    ended : (T i).sort ≡ sort.Body → Led (whole s) (T i).next → Rest s i
+    ended e l = go s.states s.start s.accepting refl refl refl l
+      where
+        go : (n q : Option ℕ) (b : Bool) → s.states ≡ n → s.start ≡ q → s.accepting ≡ b → Led (required n q b (unwrap_or s.props 0)) (T i).next → Rest s i
+        go (Some n) (Some q) true a b c l =
+            let said : Whole s (record { states = n; start = q; props = unwrap_or s.props 0 }) = record { states = a; start = b; props = refl; acceptance = c } in
+            record { end = i; said = s; items = no_item; whole = subst (Whole s) l.0 said; body = (e, l.1) }
+        go _ _ _ a b c l = absurd l
 
-  module _ (h : Header) (i : ℕ) where
-    -- the token at i is of a sort, or another test told
-    word : (k : ℕ) (n o : Next) → ((T i).sort ≡ k → Led n (T i).next → Rest h i) → (Led o (T i).next → Rest h i) → Led (cond (eqb (T i).sort k) n o) (T i).next → Rest h i
-    word k n o f = either (eqb (T i).sort k) n o (T i).next (λ e. f (eqb-true _ _ e))
+    item-led : (k : Sort) → (T i).sort ≡ k → Led (item_of s k) (T i).next → Rest s i
+    item-led sort.States e l = let p = first _ wanted.States s _ l in more (states (unsaid s.states p.0) (e, refl) (p.1.1.0, refl)) p.1.1.1
+    item-led sort.Start e l = let p = first _ wanted.Start s _ l in more (start (unsaid s.start p.0) (e, refl) (p.1.1.0, refl)) p.1.1.1
+    item-led sort.Ap e l =
+        let p = first _ wanted.Props s _ l in
+        let names = p.1.1.1.1 in
+        more (props (unsaid s.props p.0) (e, refl) (p.1.1.0, refl) p.1.1.1.0 names.1) names.2
+    item-led sort.Acceptance e l = let p = first _ wanted.Sets s _ l in let a = accepted s _ p.1 in more (acceptance p.0 (e, refl) a.1) a.2
+    item-led sort.Minor e l = more (skipped (e, refl) l.1) l.2
+    item-led sort.Body e l = ended e l
+    item-led _ e l = absurd l
 
-    item-led : Led (item_of h (T i)) (T i).next → Rest h i
-    item-led =
-        word sort.states _ _ (λ e l. let p = first _ wanted.States h _ l in more (states p.0 (e, refl) ((p.1.0, refl), refl)) p.1.1)
-        (word sort.start _ _ (λ e l. let p = first _ wanted.Start h _ l in more (start p.0 (e, refl) ((p.1.0, refl), refl)) p.1.1)
-        (word sort.ap _ _ (λ e l. let p = first _ wanted.Props h _ l in let names = p.1.1.1 in more (props p.0 (e, refl) ((p.1.1.0, refl), refl) p.1.0 names.1) names.2)
-        (word sort.acceptance _ _ (λ e l. let p = first _ wanted.Sets h _ l in let a = accepted h _ p.1 in more (acceptance p.0 (e, refl) a.1) a.2)
-        (word sort.minor _ _ (λ e l. more (skipped (e, refl) l.1) l.2)
-        (word sort.body _ Nowhere (λ e l. ended h i e l) absurd)))))
+    exactly-led : (u v : ℕ) (n : Option Next) → (T i).sort ≡ sort.Number v → Led (exactly u v n) (T i).next → Then i (sort.Number u) (Led n)
+    exactly-led u v n e l = let p = passed (eqb v u) n _ l in (subst (λ k. (T i).sort ≡ sort.Number k) (eqb-true v u p.0) e, p.1)
 
-    only-led : (k : ℕ) (n : Next) → Led (only (T i) k n) (T i).next → Then i k (Led n)
-    only-led k n l = let p = passed _ n _ l in (eqb-true _ _ p.0, p.1)
-
-    exactly-led : (v : ℕ) (n : Next) → Led (exactly (T i) v n) (T i).next → ((T i).value ≡ v) × Then i sort.number (Led n)
-    exactly-led v n l =
-        let p = passed _ n _ l in
-        let q = (and-eq-true_iff (eqb (T i).sort sort.number) (eqb (T i).value v)).0 p.0 in
-        (eqb-true _ _ q.1, (eqb-true _ _ q.0, p.1))
-
-    step-led : (w : Wanted) → Led (step w h (T i)) (T i).next → Standing w h i
-    step-led wanted.Format l = only-led sort.hoa (To wanted.Version h) l
-    step-led wanted.Version l = only-led sort.version (To wanted.Item h) l
-    step-led wanted.Item l = item-led l
-    step-led wanted.Value l =
-        either (leb (T i).sort sort.inf) (To wanted.Value h) (item_of h (T i)) (T i).next
-        (λ e v. (v.0, value (record { plain = leb-true _ _ e; next = refl }) v.1, v.2))
-        (λ v. (i, no_value, item-led v))
+    step-led : (w : Wanted) (k : Sort) → (T i).sort ≡ k → Led (step w s k) (T i).next → Standing w s i
+    step-led wanted.Format sort.Hoa e l = (e, l)
+    step-led wanted.Format _ e l = absurd l
+    step-led wanted.Version sort.Version e l = (e, l)
+    step-led wanted.Version _ e l = absurd l
+    step-led wanted.Item k e l = item-led k e l
+    step-led wanted.Value k e l =
+        either (plain k) (onto wanted.Value s) (item_of s k) (T i).next
+        (λ p v. (v.0, value (record { plain = subst (λ k. plain k ≡ true) (sym e) p; next = refl }) v.1, v.2))
+        (λ p v. (i, no_value, item-led k e v))
         l
-    step-led wanted.States l = only-led sort.number (To wanted.Item (with_states h (T i).value)) l
-    step-led wanted.Start l = only-led sort.number (To wanted.Item (with_start h (T i).value)) l
-    step-led wanted.Props l =
-        let p = only-led sort.number (props_next h (T i)) l in
-        let q = passed _ (To (names_after (T i).value) (with_props h (T i).value)) _ p.1 in
-        (leb-true _ _ q.0, (p.0, named (T i).value (with_props h (T i).value) (T i).next q.1))
-    step-led (wanted.Names c) l =
-        let p = only-led sort.quoted (To (names_after c) h) l in
-        let q = named c h (T i).next p.1 in
-        (q.0, name (p.0, refl) q.1, q.2)
-    step-led wanted.Sets l = exactly-led 1 (To wanted.Inf h) l
-    step-led wanted.Inf l = only-led sort.inf (To wanted.Opening h) l
-    step-led wanted.Opening l = only-led sort.group (To wanted.Zero h) l
-    step-led wanted.Zero l = exactly-led 0 (To wanted.Closing h) l
-    step-led wanted.Closing l = only-led sort.group_end (To wanted.Item (with_acceptance h)) l
+    step-led wanted.States (sort.Number n) e l = (n, (e, l))
+    step-led wanted.States _ e l = absurd l
+    step-led wanted.Start (sort.Number q) e l = (q, (e, l))
+    step-led wanted.Start _ e l = absurd l
+    step-led wanted.Props (sort.Number p) e l =
+        let q = passed (leb p most_props) (onto (names_after p) (with_props s p)) _ l in
+        (p, (e, (leb-true _ _ q.0, named p (with_props s p) (T i).next q.1)))
+    step-led wanted.Props _ e l = absurd l
+    step-led (wanted.Names c) sort.Quoted e l = let q = named c s (T i).next l in (q.0, name (e, refl) q.1, q.2)
+    step-led (wanted.Names c) _ e l = absurd l
+    step-led wanted.Sets (sort.Number v) e l = exactly-led 1 v (onto wanted.Inf s) e l
+    step-led wanted.Sets _ e l = absurd l
+    step-led wanted.Inf sort.Inf e l = (e, l)
+    step-led wanted.Inf _ e l = absurd l
+    step-led wanted.Opening sort.Group e l = (e, l)
+    step-led wanted.Opening _ e l = absurd l
+    step-led wanted.Zero (sort.Number v) e l = exactly-led 0 v (onto wanted.Closing s) e l
+    step-led wanted.Zero _ e l = absurd l
+    step-led wanted.Closing sort.GroupEnd e l = (e, l)
+    step-led wanted.Closing _ e l = absurd l
 
-  pub found : {w : Wanted} {h : Header} {i : ℕ} → Walk T w h i (Held m j) → Standing w h i
-  found {w = w} {h = h} {i = i} (goes {v = v} {g = g} e n k) = step-led h i w (subst (λ x. Led x (T i).next) (sym e) (subst (Standing v g) (sym n) (found k)))
-  found {w = w} {h = h} {i = i} (over e n) = step-led h i w (subst (λ x. Led x (T i).next) (sym e) (refl, n))
+  pub found : {w : Wanted} {s : Said} {i : ℕ} → Walk T w s i (held m j) → Standing w s i
+  found {w = w} {s = s} {i = i} (goes {v = v} {t = t} e n k) = step-led s i w (T i).sort refl (subst (λ x. Led x (T i).next) (sym e) (subst (Standing v t) (sym n) (found k)))
+  found {w = w} {s = s} {i = i} (over e n) = step-led s i w (T i).sort refl (subst (λ x. Led x (T i).next) (sym e) (refl, n))

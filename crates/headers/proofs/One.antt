@@ -1,30 +1,27 @@
 -- Reading comes to one answer.
-use mathlib.Core.Path.{◌≡◌, sym, ap, subst, ◌∙◌}
-use Prim.Native.Nat.{ℕ}
+use Rattle.std.proofs.Common.{◌≡◌, sym, ap, subst, ◌∙◌, ℕ, Option, Some, None, Err}
 use Rattle.automaton.specs.declared.Refusal.TheVariants.{Foreign}
 use Rattle.tokens.specs.declared.Token.{Token}
-use Rattle.headers.specs.declared.Header.{Header}
-use Rattle.headers.specs.declared.Headed.{Headed}
-use Rattle.headers.specs.declared.Headed.TheVariants.{Held, Refused}
 use Rattle.headers.specs.declared.Next.{Next}
-use Rattle.headers.specs.declared.Next.TheVariants.{To, Body, Nowhere}
+use Rattle.headers.specs.declared.Next.TheVariants.{To, Body}
+use Rattle.headers.specs.declared.Said.{Said}
 use Rattle.headers.specs.declared.Wanted.{Wanted}
 use Rattle.headers.specs.Stands.{step}
-use Rattle.headers.specs.Walk.{Walk, goes, over, stuck}
+use Rattle.headers.specs.Walk.{Outcome, held, Walk, goes, over, stuck}
 
 -- what reading comes to where a token leads
-abbrev After : (ℕ → Token) → Next → (x : Token) → Headed → Type 0
-After T (To v g) x r = Walk T v g x.next r
-After T (Body g) x r = Held g x.next ≡ r
-After T Nowhere x r = Refused (Foreign x.at) ≡ r
+abbrev After : (ℕ → Token) → Option Next → (x : Token) → Outcome → Type 0
+After T (Some (To v t)) x r = Walk T v t x.next r
+After T (Some (Body h)) x r = held h x.next ≡ r
+After T None x r = Err (Foreign x.at) ≡ r
 
 module _ (T : ℕ → Token) where
-  after : {w : Wanted} {h : Header} {i : ℕ} {r : Headed} → Walk T w h i r → After T (step w h (T i)) (T i) r
-  after {i = i} {r = r} (goes {v = v} {g = g} e n k) = subst (λ m. After T m (T i) r) (sym e) (subst (λ j. Walk T v g j r) (sym n) k)
-  after {i = i} (over {g = g} {j = j} e n) = subst (λ m. After T m (T i) (Held g j)) (sym e) (ap (Held g) n)
-  after {i = i} (stuck {p = p} e n) = subst (λ m. After T m (T i) (Refused (Foreign p))) (sym e) (ap (λ q. Refused (Foreign q)) n)
+  after : {w : Wanted} {s : Said} {i : ℕ} {r : Outcome} → Walk T w s i r → After T (step w s (T i).sort) (T i) r
+  after {i = i} {r = r} (goes {v = v} {t = t} e n k) = subst (λ m. After T m (T i) r) (sym e) (subst (λ j. Walk T v t j r) (sym n) k)
+  after {i = i} (over {h = h} {j = j} e n) = subst (λ m. After T m (T i) (held h j)) (sym e) (ap (held h) n)
+  after {i = i} (stuck {p = p} e n) = subst (λ m. After T m (T i) (Err (Foreign p))) (sym e) (ap (λ q. Err (Foreign q)) n)
 
-  pub walk_one : {w : Wanted} {h : Header} {i : ℕ} {r s : Headed} → Walk T w h i r → Walk T w h i s → r ≡ s
-  walk_one {i = i} {s = s} (goes {v = v} {g = g} e n k) l = walk_one k (subst (λ j. Walk T v g j s) n (subst (λ m. After T m (T i) s) e (after l)))
-  walk_one {i = i} {s = s} (over {g = g} e n) l = ap (Held g) (sym n) ∙ subst (λ m. After T m (T i) s) e (after l)
-  walk_one {i = i} {s = s} (stuck e n) l = ap (λ q. Refused (Foreign q)) (sym n) ∙ subst (λ m. After T m (T i) s) e (after l)
+  pub walk_one : {w : Wanted} {s : Said} {i : ℕ} {r q : Outcome} → Walk T w s i r → Walk T w s i q → r ≡ q
+  walk_one {i = i} {q = q} (goes {v = v} {t = t} e n k) l = walk_one k (subst (λ j. Walk T v t j q) n (subst (λ m. After T m (T i) q) e (after l)))
+  walk_one {i = i} {q = q} (over {h = h} e n) l = ap (held h) (sym n) ∙ subst (λ m. After T m (T i) q) e (after l)
+  walk_one {i = i} {q = q} (stuck e n) l = ap (λ p. Err (Foreign p)) (sym n) ∙ subst (λ m. After T m (T i) q) e (after l)

@@ -1,40 +1,41 @@
--- Which token may stand where in a header: what each leads to, by what is wanted and what has been said.
-use Rattle.std.specs.Prelude.{Bool, cond, ◌&&◌, ℕ, zero, suc, eqb, leb}
-use Rattle.tokens.specs.declared.Token.{Token}
-use Rattle.tokens.specs.Sorts as sort
-use Rattle.headers.specs.declared.Header.{Header}
+-- Which token may stand where in a header: what each sort leads to, by what is wanted and what has been said. None where it may not stand.
+use Rattle.std.specs.Prelude.{Bool, true, cond, ℕ, zero, suc, eqb, leb, Option, Some, None, is_some}
+use Rattle.std.specs.Option.{unwrap_or}
+use Rattle.tokens.specs.declared.Sort.{Sort}
+use Rattle.tokens.specs.declared.Sort.TheVariants as sort
+use Rattle.tokens.specs.Sorts.{plain}
+use Rattle.headers.specs.declared.Said.{Said}
 use Rattle.headers.specs.declared.Wanted.{Wanted}
 use Rattle.headers.specs.declared.Wanted.TheVariants.{Format, Version, Item, Value, States, Start, Props, Names, Sets, Inf, Opening, Zero, Closing}
 use Rattle.headers.specs.declared.Next.{Next}
-use Rattle.headers.specs.declared.Next.TheVariants.{To, Body, Nowhere}
+use Rattle.headers.specs.declared.Next.TheVariants.{To, Body}
 use Rattle.headers.specs.Header.{with_states, with_start, with_props, with_acceptance, most_props}
 
--- one sort of token and no other
-abbrev pub only : Token → (sort : ℕ) → Next → Next
-only x k n = cond (eqb x.sort k) n Nowhere
-
--- one number and no other token
-abbrev pub exactly : Token → (value : ℕ) → Next → Next
-exactly x v n = cond (eqb x.sort sort.number && eqb x.value v) n Nowhere
+-- a token that leads to where w is wanted and s has been said
+abbrev pub onto : Wanted → Said → Option Next
+onto w s = Some (To w s)
 
 -- "a repeated one 23 at its second word"
-abbrev pub once : (stood : Bool) → Wanted → Header → Next
-once stood w h = cond stood Nowhere (To w h)
+abbrev pub once : (stood : Bool) → Wanted → Said → Option Next
+once stood w s = cond stood None (onto w s)
 
 -- "A missing required header is 23 at `--BODY--`"
-abbrev pub whole : Header → Next
-whole h = cond (h.counted && (h.started && h.accepting)) (Body h) Nowhere
+abbrev pub required : (states start : Option ℕ) → (accepting : Bool) → (props : ℕ) → Option Next
+required (Some n) (Some q) true p = Some (Body (record { states = n; start = q; props = p }))
+required _ _ _ p = None
+
+abbrev pub whole : Said → Option Next
+whole s = required s.states s.start s.accepting (unwrap_or s.props 0)
 
 -- where a header word is wanted
-abbrev pub item : Header → Token → Next
-item h x =
-    cond (eqb x.sort sort.states) (once h.counted States h)
-    (cond (eqb x.sort sort.start) (once h.started Start h)
-    (cond (eqb x.sort sort.ap) (once h.named Props h)
-    (cond (eqb x.sort sort.acceptance) (once h.accepting Sets h)
-    (cond (eqb x.sort sort.minor) (To Value h)
-    (cond (eqb x.sort sort.body) (whole h)
-    Nowhere)))))
+abbrev pub item : Said → Sort → Option Next
+item s sort.States = once (is_some s.states) States s
+item s sort.Start = once (is_some s.start) Start s
+item s sort.Ap = once (is_some s.props) Props s
+item s sort.Acceptance = once s.accepting Sets s
+item s sort.Minor = onto Value s
+item s sort.Body = whole s
+item s _ = None
 
 -- so many names are left: the next is wanted, with the number that are left behind it
 abbrev pub names_after : (left : ℕ) → Wanted
@@ -42,20 +43,35 @@ names_after zero = Item
 names_after (suc c) = Names c
 
 -- "a fifth proposition: 23 at that number"
-abbrev pub props_next : Header → Token → Next
-props_next h x = cond (leb x.value most_props) (To (names_after x.value) (with_props h x.value)) Nowhere
+abbrev pub props_next : Said → (p : ℕ) → Option Next
+props_next s p = cond (leb p most_props) (onto (names_after p) (with_props s p)) None
 
-abbrev pub step : Wanted → Header → Token → Next
-step Format h x = only x sort.hoa (To Version h)
-step Version h x = only x sort.version (To Item h)
-step Item h x = item h x
-step Value h x = cond (leb x.sort sort.inf) (To Value h) (item h x)
-step States h x = only x sort.number (To Item (with_states h x.value))
-step Start h x = only x sort.number (To Item (with_start h x.value))
-step Props h x = only x sort.number (props_next h x)
-step (Names c) h x = only x sort.quoted (To (names_after c) h)
-step Sets h x = exactly x 1 (To Inf h)
-step Inf h x = only x sort.inf (To Opening h)
-step Opening h x = only x sort.group (To Zero h)
-step Zero h x = exactly x 0 (To Closing h)
-step Closing h x = only x sort.group_end (To Item (with_acceptance h))
+-- one number and no other
+abbrev pub exactly : (u v : ℕ) → Option Next → Option Next
+exactly u v n = cond (eqb v u) n None
+
+abbrev pub step : Wanted → Said → Sort → Option Next
+step Format s sort.Hoa = onto Version s
+step Format s _ = None
+step Version s sort.Version = onto Item s
+step Version s _ = None
+step Item s k = item s k
+step Value s k = cond (plain k) (onto Value s) (item s k)
+step States s (sort.Number n) = onto Item (with_states s n)
+step States s _ = None
+step Start s (sort.Number q) = onto Item (with_start s q)
+step Start s _ = None
+step Props s (sort.Number p) = props_next s p
+step Props s _ = None
+step (Names c) s sort.Quoted = onto (names_after c) s
+step (Names c) s _ = None
+step Sets s (sort.Number v) = exactly 1 v (onto Inf s)
+step Sets s _ = None
+step Inf s sort.Inf = onto Opening s
+step Inf s _ = None
+step Opening s sort.Group = onto Zero s
+step Opening s _ = None
+step Zero s (sort.Number v) = exactly 0 v (onto Closing s)
+step Zero s _ = None
+step Closing s sort.GroupEnd = onto Item (with_acceptance s)
+step Closing s _ = None

@@ -4,24 +4,28 @@
 
 ghost use Rattle.std.specs.Prelude.{◌≡◌};
 ghost use Rattle.tokens.specs.Tokens.{token_from};
-ghost use Rattle.headers.specs.Stands.{exactly as exactly_of, item as item_of, names_after, once as once_of, only as only_of, step as step_of, whole as whole_of};
+ghost use Rattle.headers.specs.Stands.{item as item_of, names_after, once as once_of, step as step_of, whole as whole_of};
 ghost use Rattle.headers.specs.Header.{unsaid};
 ghost use Rattle.headers.specs.Walk.{Walk};
-ghost use Rattle.headers.specs.declared.Next.TheVariants.{To};
-ghost use Rattle.headers.specs.declared.Wanted.TheVariants.{Closing, Format, Props, Start, States, Value};
+ghost use Rattle.headers.specs.declared.Wanted.TheVariants.{Format};
 
 use automaton::Refusal;
-use tokens::{Sort, Token};
+use tokens::Sort;
 
-// What a header says, and which of the four that may stand once have stood.
+// What a header says: how many states there are, the one to start in, and how many propositions there are.
 #[derive(Clone, Copy)]
 pub struct Header {
     pub states: usize,
     pub start: usize,
     pub props: usize,
-    pub counted: bool,
-    pub started: bool,
-    pub named: bool,
+}
+
+// What a header has said so far, by those that may stand once.
+#[derive(Clone, Copy)]
+pub struct Said {
+    pub states: Option<usize>,
+    pub start: Option<usize>,
+    pub props: Option<usize>,
     pub accepting: bool,
 }
 
@@ -43,198 +47,138 @@ pub enum Wanted {
     Closing,
 }
 
-// What a token leads to.
+// What a token leads to that may stand there.
 #[derive(Clone, Copy)]
 pub enum Next {
-    To(Wanted, Header),
+    To(Wanted, Said),
     Body(Header),
-    Nowhere,
 }
 
-// What `read` answers: the header and the place behind it.
+// A header and the place behind its `--BODY--`.
 #[derive(Clone, Copy)]
-pub enum Headed {
-    Held(Header, usize),
-    Refused(Refusal),
+pub struct Headed {
+    pub header: Header,
+    pub next: usize,
 }
 
 // A file has so many propositions at most.
 pub const PROPS: usize = 4;
 
 // The header of a file.
-pub fn read(text: &[u8]) -> Headed
+pub fn read(text: &[u8]) -> Result<Headed, Refusal>
     ensures { Walk (token_from text.now) Format unsaid 0 result }
 {
     let mut wanted = Wanted::Format;
-    let mut header = Header {
-        states: 0,
-        start: 0,
-        props: 0,
-        counted: false,
-        started: false,
-        named: false,
+    let mut said = Said {
+        states: None,
+        start: None,
+        props: None,
         accepting: false,
     };
     let mut at = 0;
     loop {
         let x = tokens::token_from(text, at);
-        let next = step(wanted, header, x);
-        match next {
-            Next::To(w, h) => {
+        match step(wanted, said, x.sort) {
+            Some(Next::To(w, s)) => {
                 wanted = w;
-                header = h;
+                said = s;
                 at = x.next;
             }
-            Next::Body(h) => {
-                return Headed::Held(h, x.next);
+            Some(Next::Body(header)) => {
+                return Ok(Headed {
+                    header,
+                    next: x.next,
+                });
             }
-            Next::Nowhere => {
-                return Headed::Refused(Refusal::Foreign(x.at));
-            }
+            None => return Err(Refusal::Foreign(x.at)),
         }
     }
 }
 
-// What a token leads to.
-fn step(wanted: Wanted, h: Header, x: Token) -> Next
-    ensures { result ≡ step_of wanted h x }
+// What a token of a sort leads to.
+fn step(wanted: Wanted, said: Said, sort: Sort) -> Option<Next>
+    ensures { result ≡ step_of wanted said sort }
 {
-    match wanted {
-        Wanted::Format => only(x, Sort::HOA, Wanted::Version, h),
-        Wanted::Version => only(x, Sort::VERSION, Wanted::Item, h),
-        Wanted::Item => item(h, x),
-        Wanted::Value => value(h, x),
-        Wanted::States => states(h, x),
-        Wanted::Start => start(h, x),
-        Wanted::Props => props(h, x),
-        Wanted::Names(left) => only(x, Sort::QUOTED, names_after(left), h),
-        Wanted::Sets => exactly(x, 1, Wanted::Inf, h),
-        Wanted::Inf => only(x, Sort::INF, Wanted::Opening, h),
-        Wanted::Opening => only(x, Sort::GROUP, Wanted::Zero, h),
-        Wanted::Zero => exactly(x, 0, Wanted::Closing, h),
-        Wanted::Closing => closing(h, x),
-    }
-}
-
-// One sort of token and no other.
-fn only(x: Token, sort: u8, wanted: Wanted, h: Header) -> Next
-    ensures { result ≡ only_of x sort (To wanted h) }
-{
-    if x.sort == sort {
-        Next::To(wanted, h)
-    } else {
-        Next::Nowhere
-    }
-}
-
-// One number and no other token.
-fn exactly(x: Token, value: usize, wanted: Wanted, h: Header) -> Next
-    ensures { result ≡ exactly_of x value (To wanted h) }
-{
-    if (x.sort == Sort::NUMBER) & (x.value == value) {
-        Next::To(wanted, h)
-    } else {
-        Next::Nowhere
+    match (wanted, sort) {
+        (Wanted::Format, Sort::Hoa) => Some(Next::To(Wanted::Version, said)),
+        (Wanted::Version, Sort::Version) => Some(Next::To(Wanted::Item, said)),
+        (Wanted::Value, _) if sort.is_plain() => Some(Next::To(Wanted::Value, said)),
+        (Wanted::Item | Wanted::Value, _) => item(said, sort),
+        (Wanted::States, Sort::Number(n)) => Some(Next::To(
+            Wanted::Item,
+            Said {
+                states: Some(n),
+                ..said
+            },
+        )),
+        (Wanted::Start, Sort::Number(q)) => Some(Next::To(
+            Wanted::Item,
+            Said {
+                start: Some(q),
+                ..said
+            },
+        )),
+        (Wanted::Props, Sort::Number(p)) if p <= PROPS => Some(Next::To(
+            names_after(p),
+            Said {
+                props: Some(p),
+                ..said
+            },
+        )),
+        (Wanted::Names(left), Sort::Quoted) => Some(Next::To(names_after(left), said)),
+        (Wanted::Sets, Sort::Number(1)) => Some(Next::To(Wanted::Inf, said)),
+        (Wanted::Inf, Sort::Inf) => Some(Next::To(Wanted::Opening, said)),
+        (Wanted::Opening, Sort::Group) => Some(Next::To(Wanted::Zero, said)),
+        (Wanted::Zero, Sort::Number(0)) => Some(Next::To(Wanted::Closing, said)),
+        (Wanted::Closing, Sort::GroupEnd) => Some(Next::To(
+            Wanted::Item,
+            Said {
+                accepting: true,
+                ..said
+            },
+        )),
+        _ => None,
     }
 }
 
 // A header word, or `--BODY--` where all that is required has stood.
-fn item(h: Header, x: Token) -> Next
-    ensures { result ≡ item_of h x }
+fn item(said: Said, sort: Sort) -> Option<Next>
+    ensures { result ≡ item_of said sort }
 {
-    if x.sort == Sort::STATES {
-        return once(h.counted, Wanted::States, h);
+    match sort {
+        Sort::States => once(said.states.is_some(), Wanted::States, said),
+        Sort::Start => once(said.start.is_some(), Wanted::Start, said),
+        Sort::Ap => once(said.props.is_some(), Wanted::Props, said),
+        Sort::Acceptance => once(said.accepting, Wanted::Sets, said),
+        Sort::Minor => Some(Next::To(Wanted::Value, said)),
+        Sort::Body => whole(said),
+        _ => None,
     }
-    if x.sort == Sort::START {
-        return once(h.started, Wanted::Start, h);
-    }
-    if x.sort == Sort::AP {
-        return once(h.named, Wanted::Props, h);
-    }
-    if x.sort == Sort::ACCEPTANCE {
-        return once(h.accepting, Wanted::Sets, h);
-    }
-    if x.sort == Sort::MINOR {
-        return Next::To(Wanted::Value, h);
-    }
-    if x.sort == Sort::BODY {
-        return whole(h);
-    }
-    Next::Nowhere
 }
 
 // A header that may stand once.
-fn once(stood: bool, wanted: Wanted, h: Header) -> Next
-    ensures { result ≡ once_of stood wanted h }
+fn once(stood: bool, wanted: Wanted, said: Said) -> Option<Next>
+    ensures { result ≡ once_of stood wanted said }
 {
     if stood {
-        Next::Nowhere
+        None
     } else {
-        Next::To(wanted, h)
+        Some(Next::To(wanted, said))
     }
 }
 
-// The body, if all that is required has stood.
-fn whole(h: Header) -> Next
-    ensures { result ≡ whole_of h }
+// The body, if all that is required has stood; without `AP:` there are no propositions.
+fn whole(said: Said) -> Option<Next>
+    ensures { result ≡ whole_of said }
 {
-    if h.counted & (h.started & h.accepting) {
-        Next::Body(h)
-    } else {
-        Next::Nowhere
+    match (said.states, said.start, said.accepting) {
+        (Some(states), Some(start), true) => Some(Next::Body(Header {
+            states,
+            start,
+            props: said.props.unwrap_or(0),
+        })),
+        _ => None,
     }
-}
-
-// A value of a header that is skipped, or what comes after them.
-fn value(h: Header, x: Token) -> Next
-    ensures { result ≡ step_of Value h x }
-{
-    if x.sort <= Sort::INF {
-        return Next::To(Wanted::Value, h);
-    }
-    item(h, x)
-}
-
-// How many states there are.
-fn states(h: Header, x: Token) -> Next
-    ensures { result ≡ step_of States h x }
-{
-    if x.sort != Sort::NUMBER {
-        return Next::Nowhere;
-    }
-    let mut next = h;
-    next.states = x.value;
-    next.counted = true;
-    Next::To(Wanted::Item, next)
-}
-
-// The state to start in.
-fn start(h: Header, x: Token) -> Next
-    ensures { result ≡ step_of Start h x }
-{
-    if x.sort != Sort::NUMBER {
-        return Next::Nowhere;
-    }
-    let mut next = h;
-    next.start = x.value;
-    next.started = true;
-    Next::To(Wanted::Item, next)
-}
-
-// How many propositions there are.
-fn props(h: Header, x: Token) -> Next
-    ensures { result ≡ step_of Props h x }
-{
-    if x.sort != Sort::NUMBER {
-        return Next::Nowhere;
-    }
-    if PROPS < x.value {
-        return Next::Nowhere;
-    }
-    let mut next = h;
-    next.props = x.value;
-    next.named = true;
-    Next::To(names_after(x.value), next)
 }
 
 // What is wanted where so many names are left.
@@ -246,16 +190,4 @@ fn names_after(left: usize) -> Wanted
     } else {
         Wanted::Names(left - 1)
     }
-}
-
-// The end of the acceptance.
-fn closing(h: Header, x: Token) -> Next
-    ensures { result ≡ step_of Closing h x }
-{
-    if x.sort != Sort::GROUP_END {
-        return Next::Nowhere;
-    }
-    let mut next = h;
-    next.accepting = true;
-    Next::To(Wanted::Item, next)
 }

@@ -1,10 +1,7 @@
 -- What is known while a label is read unit by unit, in continuation form: what the rest is makes what the whole is.
-use mathlib.Core.Path.{◌≡◌}
-use Prim.Native.Nat.{ℕ, ◌<◌, min, max}
-use native.Mathlib.Omega.{arith}
-use lib.Bits.{bit_and, bit_or}
+use Rattle.std.proofs.Common.{◌≡◌, ℕ, ◌<◌, min, max, arith, bit_and, bit_or}
 use Rattle.tokens.specs.declared.Token.{Token}
-use Rattle.tokens.specs.Sorts as sort
+use Rattle.tokens.specs.declared.Sort.TheVariants as sort
 use Rattle.tokens.specs.Here.{Here}
 use Rattle.labels.specs.Label.{Label, both, either, holds, unit, chain, whole, Is, is_unit, is_and, is_chain, is_or}
 use Rattle.labels.specs.Stands.{want}
@@ -58,7 +55,7 @@ module _ {T : ℕ → Token} {p d i : ℕ} where
     or_hold l a h = omega (arith, g.ors_hold (either (g.ands f.label) l) a h, bit-or any (bit_and all m) a, so_far a h, flag-or (holds (g.ands f.label) a) (holds l a))
 
     -- behind one unit more, that `&` follows
-    pub going_and : {h : ℕ} → Here T j sort.and h → Going T p d i h any (bit_and all m)
+    pub going_and : {h : ℕ} → Here T j sort.And h → Going T p d i h any (bit_and all m)
     going_and {h} e = record {
       from = g.from;
       ors = g.ors;
@@ -71,7 +68,7 @@ module _ {T : ℕ → Token} {p d i : ℕ} where
     }
 
     -- behind one unit more, that `|` follows
-    pub going_or : {h : ℕ} → Here T j sort.or h → Going T p d i h (bit_or any (bit_and all m)) 65535
+    pub going_or : {h : ℕ} → Here T j sort.Or h → Going T p d i h (bit_or any (bit_and all m)) 65535
     going_or {h} e = record {
       from = h;
       ors = λ l. g.ors (either (g.ands f.label) l);

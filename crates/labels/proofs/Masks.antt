@@ -1,12 +1,7 @@
 -- The bits of the masks: those of the parts of a label give those of the label.
-use mathlib.Core.Path.{◌≡◌, refl, ap, ◌∙◌}
-use mathlib.Core.Bool.{Bool, true, false, ◌&&◌, ◌||◌, not as flip, and-eq-true_iff}
-use Prim.Native.Nat.{ℕ, zero, suc, ◌/◌, ◌%◌, ◌^◌, ◌<◌, ◌≤◌, min, max}
-use native.Mathlib.Omega.{arith}
-use lib.Dec.{eqb}
-use lib.Bits.{bit_and, bit_or, bit_xor, differ, and_shr, or_shr, xor_shr, and_step, or_step, xor_step}
-use borrow.Author.Count.{below_more}
-use borrow.Author.Tests.{eqb-true}
+use Rattle.std.proofs.Common.{◌≡◌, refl, ap, ◌∙◌, Bool, true, false, ◌&&◌, ◌||◌, not as flip, ℕ, zero, suc, ◌/◌, ◌%◌, ◌^◌, ◌<◌, ◌≤◌, min, max, arith, eqb, bit_and, bit_or, bit_xor, below_more, eqb-true}
+use Rattle.std.proofs.Math.Bool.{and-eq-true_iff}
+use lib.Bits.{differ, and_shr, or_shr, xor_shr, and_step, or_step, xor_step}
 use Rattle.labels.specs.Label.{Label, always, never, not, holds}
 use Rattle.labels.specs.Letters.{flag, bit, Agrees}
 

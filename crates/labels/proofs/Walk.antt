@@ -1,77 +1,82 @@
 -- The walk of a refusal goes along the labels of the grammar, both ways.
-use mathlib.Core.Path.{◌≡◌, refl, sym, ap, subst, ◌∙◌}
-use mathlib.Core.Logic.{◌≢◌}
-use mathlib.Core.Bool.{Bool, true, false}
-use Prim.Native.Nat.{ℕ, suc, ◌+◌, ◌<◌, ◌≤◌}
-use native.Mathlib.Numerals.{add-one}
-use native.Mathlib.Omega.{arith}
-use lib.Dec.{ltb}
-use borrow.Author.Tests.{ltb-true, ltb-false, lt-ltb, le-ltb, ne_eqb}
+use Rattle.std.proofs.Common.{◌≡◌, ◌≢◌, refl, sym, ap, subst, ◌∙◌, true, ℕ, suc, ◌+◌, ◌<◌, ◌≤◌, add-one, arith, lt-ltb, le-ltb}
 use Rattle.automaton.specs.declared.Refusal.{Refusal}
 use Rattle.automaton.specs.declared.Refusal.TheVariants.{Foreign}
+use Rattle.tokens.specs.declared.Sort.{Sort}
+use Rattle.tokens.specs.declared.Sort.TheVariants as sort
 use Rattle.tokens.specs.declared.Token.{Token}
-use Rattle.tokens.specs.Sorts as sort
+use Rattle.tokens.specs.Sorts as sorts
 use Rattle.labels.specs.Label.{Label, Level, Is, is_true, is_false, is_prop, is_not, is_group, is_unit, is_and, is_chain, is_or}
-use Rattle.labels.specs.Stands.{Stage, want, have, to, refuse, opening, closing, ending, step, Fails, stuck, goes}
+use Rattle.labels.specs.Stands.{Stage, want, have, to, refuse, opening, closing, ending, wanted, behind, step, Fails, stuck, goes}
 
 -- ---- what each token leads to
 
 module _ (p d o : ℕ) (x : Token) where
-  pub want-true : x.sort ≡ sort.true → step p (want d o) x ≡ to (have d o)
+  pub want-true : x.sort ≡ sort.True → step p (want d o) x ≡ to (have d o)
   want-true e = simp e
 
-  pub want-false : x.sort ≡ sort.false → step p (want d o) x ≡ to (have d o)
+  pub want-false : x.sort ≡ sort.False → step p (want d o) x ≡ to (have d o)
   want-false e = simp e
 
-  pub want-number : x.sort ≡ sort.number → x.value < p → step p (want d o) x ≡ to (have d o)
+  pub want-number : {v : ℕ} → x.sort ≡ sort.Number v → v < p → step p (want d o) x ≡ to (have d o)
   want-number e l = simp (e, lt-ltb _ _ l)
 
-  pub want_large : x.sort ≡ sort.number → p ≤ x.value → step p (want d o) x ≡ refuse Foreign
-  want_large e l = simp (e, le-ltb _ _ l)
-
-  pub want-not : x.sort ≡ sort.not → step p (want d o) x ≡ to (want d o)
+  pub want-not : x.sort ≡ sort.Not → step p (want d o) x ≡ to (want d o)
   want-not e = simp e
 
-  pub want-group : x.sort ≡ sort.group → step p (want d o) x ≡ opening d o
+  pub want-group : x.sort ≡ sort.Group → step p (want d o) x ≡ opening d o
   want-group e = simp e
 
-  pub want_open : {e : ℕ} → e + 1 ≡ d → x.sort ≡ sort.group → step p (want d o) x ≡ to (want e (suc o))
+  pub want_open : {e : ℕ} → e + 1 ≡ d → x.sort ≡ sort.Group → step p (want d o) x ≡ to (want e (suc o))
   want_open {e} q g = want-group g ∙ ap (λ (n : ℕ). opening n o) (sym q ∙ add-one e)
 
-  pub have-and : x.sort ≡ sort.and → step p (have d o) x ≡ to (want d o)
+  pub have-and : x.sort ≡ sort.And → step p (have d o) x ≡ to (want d o)
   have-and e = simp e
 
-  pub have-or : x.sort ≡ sort.or → step p (have d o) x ≡ to (want d o)
+  pub have-or : x.sort ≡ sort.Or → step p (have d o) x ≡ to (want d o)
   have-or e = simp e
 
-  pub have_close : x.sort ≡ sort.group_end → step p (have d o) x ≡ closing d o
+  pub have_close : x.sort ≡ sort.GroupEnd → step p (have d o) x ≡ closing d o
   have_close e = simp e
 
-  pub have-end : x.sort ≡ sort.label_end → step p (have d o) x ≡ ending o
+  pub have-end : x.sort ≡ sort.LabelEnd → step p (have d o) x ≡ ending o
   have-end e = simp e
 
-  -- every other token
-  pub want_foreign : x.sort ≢ sort.true → x.sort ≢ sort.false → x.sort ≢ sort.number → x.sort ≢ sort.not → x.sort ≢ sort.group → step p (want d o) x ≡ refuse Foreign
-  want_foreign a b c e f = simp (ne_eqb _ _ a, ne_eqb _ _ b, ne_eqb _ _ c, ne_eqb _ _ e, ne_eqb _ _ f)
+-- every other token
+module _ (p d o : ℕ) where
+  pub want_foreign : (k : Sort) → k ≢ sort.True → k ≢ sort.False → ((v : ℕ) → k ≡ sort.Number v → p ≤ v) → k ≢ sort.Not → k ≢ sort.Group → wanted p d o k ≡ refuse Foreign
+  want_foreign sort.True a b c e f = absurd (a refl)
+  want_foreign sort.False a b c e f = absurd (b refl)
+  want_foreign (sort.Number v) a b c e f = simp (le-ltb _ _ (c v refl))
+  want_foreign sort.Not a b c e f = absurd (e refl)
+  want_foreign sort.Group a b c e f = absurd (f refl)
+  want_foreign _ a b c e f = refl
 
-  pub have_foreign : x.sort ≢ sort.and → x.sort ≢ sort.or → x.sort ≢ sort.group_end → x.sort ≢ sort.label_end → step p (have d o) x ≡ refuse Foreign
-  have_foreign a b c e = simp (ne_eqb _ _ a, ne_eqb _ _ b, ne_eqb _ _ c, ne_eqb _ _ e)
+  pub have_foreign : (k : Sort) → k ≢ sort.And → k ≢ sort.Or → k ≢ sort.GroupEnd → k ≢ sort.LabelEnd → behind d o k ≡ refuse Foreign
+  have_foreign sort.And a b c e = absurd (a refl)
+  have_foreign sort.Or a b c e = absurd (b refl)
+  have_foreign sort.GroupEnd a b c e = absurd (c refl)
+  have_foreign sort.LabelEnd a b c e = absurd (e refl)
+  have_foreign _ a b c e = refl
 
--- a token of none of the sorts of a label
-pub foreign : (p : ℕ) (s : Stage) (x : Token) → sort.label_end < x.sort → step p s x ≡ refuse Foreign
-foreign p (want d o) x l = want_foreign p d o x (λ e. omega arith) (λ e. omega arith) (λ e. omega arith) (λ e. omega arith) (λ e. omega arith)
-foreign p (have d o) x l = have_foreign p d o x (λ e. omega arith) (λ e. omega arith) (λ e. omega arith) (λ e. omega arith)
+-- a token that leads on stands in the text
+module _ {u : Stage} where
+  refused : {A : Type 0} → refuse Foreign ≡ to u → A
+  refused e = absurd (cc)
 
--- one that goes on is of a sort of a label
-pub stands_small : (p : ℕ) (s : Stage) (x : Token) {u : Stage} → step p s x ≡ to u → x.sort ≤ sort.label_end
-stands_small p s x e = tells (ltb sort.label_end x.sort) refl
-  where
-    tells : (b : Bool) → ltb sort.label_end x.sort ≡ b → x.sort ≤ sort.label_end
-    tells true q =
-        let f = foreign p s x (ltb-true _ _ q) in
-        let z : ◌≡◌ {A = ℕ} 0 1 = cc in
-        absurd (omega arith)
-    tells false q = ltb-false _ _ q
+  wanted_stands : (p d o : ℕ) (k : Sort) → wanted p d o k ≡ to u → sorts.stands k ≡ true
+  wanted_stands p d o sort.Nothing e = refused e
+  wanted_stands p d o sort.Wrong e = refused e
+  wanted_stands p d o _ e = refl
+
+  behind_stands : (d o : ℕ) (k : Sort) → behind d o k ≡ to u → sorts.stands k ≡ true
+  behind_stands d o sort.Nothing e = refused e
+  behind_stands d o sort.Wrong e = refused e
+  behind_stands d o _ e = refl
+
+  pub step_stands : (p : ℕ) (s : Stage) (x : Token) → step p s x ≡ to u → sorts.stands x.sort ≡ true
+  step_stands p (want d o) x e = wanted_stands p d o x.sort e
+  step_stands p (have d o) x e = behind_stands d o x.sort e
 
 -- ---- the walk from a place and stage to another
 
@@ -107,7 +112,7 @@ module _ {T : ℕ → Token} {p : ℕ} where
   pub leads : {v : Level} {d i j : ℕ} {l : Label} → Is T p v d i l j → (o : ℕ) → Leads T p (want d o) i (have d o) j
   leads {d = d} {i = i} (is_true h) o = moves (want-true p d o (T i) h.0) h.1 stays
   leads {d = d} {i = i} (is_false h) o = moves (want-false p d o (T i) h.0) h.1 stays
-  leads {d = d} {i = i} (is_prop h l) o = moves (want-number p d o (T i) h.0.0 (omega (arith, h.1))) h.0.1 stays
+  leads {d = d} {i = i} (is_prop h l) o = moves (want-number p d o (T i) h.0 l) h.1 stays
   leads {d = d} {i = i} (is_not h u) o = moves (want-not p d o (T i) h.0) h.1 (leads u o)
   leads {d = d} {i = i} {j = j} (is_group {e = e} {h = g} q h w c) o =
       let last : Leads T p (have e (suc o)) g (have d o) j = moves (have_close p e (suc o) (T g) c.0 ∙ ap (λ (n : ℕ). to (have n o)) (sym (add-one e) ∙ q)) c.1 stays in

@@ -1,8 +1,8 @@
 -- What `letters` answers: the letters that make a label true, as the bits of a number, or why no label stands there.
-use Rattle.std.specs.Prelude.{◌≡◌, Bool, true, false, ℕ, ◌/◌, ◌%◌, ◌^◌, ◌<◌}
+use Rattle.std.specs.Prelude.{◌≡◌, Bool, true, false, ℕ, ◌/◌, ◌%◌, ◌^◌, ◌<◌, Result, Ok, Err}
+use Rattle.automaton.specs.declared.Refusal.{Refusal}
 use Rattle.tokens.specs.declared.Token.{Token}
 use Rattle.labels.specs.declared.Lettered.{Lettered}
-use Rattle.labels.specs.declared.Lettered.TheVariants.{Letters, Refused}
 use Rattle.labels.specs.Label.{Label, holds, deepest, Labelled}
 use Rattle.labels.specs.Stands.{want, Fails}
 
@@ -25,6 +25,6 @@ pub record Read (T : ℕ → Token) (p i mask j : ℕ) : Type 0 where
   pub labelled : Labelled T p i label j
   pub agrees : Agrees mask label
 
-abbrev pub Lettering : (T : ℕ → Token) → (p i : ℕ) → Lettered → Type 0
-Lettering T p i (Letters m j) = Read T p i m j
-Lettering T p i (Refused r) = Fails T p (want deepest 0) i r
+abbrev pub Lettering : (T : ℕ → Token) → (p i : ℕ) → Result Lettered Refusal → Type 0
+Lettering T p i (Ok l) = Read T p i l.set l.next
+Lettering T p i (Err r) = Fails T p (want deepest 0) i r

@@ -1,27 +1,28 @@
 -- A label written out, with brackets around each `&` and `|`.
 use Rattle.std.specs.Prelude.{List, [], ◌∷◌, ◌++◌, ℕ, zero, suc, ◌<◌}
 use Rattle.tokens.specs.declared.Token.{Token}
-use Rattle.tokens.specs.Sorts as sort
+use Rattle.tokens.specs.declared.Sort.{Sort}
+use Rattle.tokens.specs.declared.Sort.TheVariants as sort
 use Rattle.tokens.specs.Here.{Here, Number}
 use Rattle.labels.specs.Label.{Label, always, never, prop, not, both, either}
 
 -- what a label tells of a token
 pub data Sign : Type 0 where
-  sign : (sort : ℕ) → Sign
+  sign : Sort → Sign
   number : (value : ℕ) → Sign
 
 -- two labels and the sign that joins them, in brackets
-abbrev pub in_brackets : List Sign → (sort : ℕ) → List Sign → List Sign
-in_brackets xs k ys = sign sort.group ∷ (xs ++ (sign k ∷ (ys ++ (sign sort.group_end ∷ []))))
+abbrev pub in_brackets : List Sign → Sort → List Sign → List Sign
+in_brackets xs k ys = sign sort.Group ∷ (xs ++ (sign k ∷ (ys ++ (sign sort.GroupEnd ∷ []))))
 
 -- the signs of a label
 unfoldable pub print : Label → List Sign
-print always = sign sort.true ∷ []
-print never = sign sort.false ∷ []
+print always = sign sort.True ∷ []
+print never = sign sort.False ∷ []
 print (prop i) = number i ∷ []
-print (not l) = sign sort.not ∷ print l
-print (both l m) = in_brackets (print l) sort.and (print m)
-print (either l m) = in_brackets (print l) sort.or (print m)
+print (not l) = sign sort.Not ∷ print l
+print (both l m) = in_brackets (print l) sort.And (print m)
+print (either l m) = in_brackets (print l) sort.Or (print m)
 
 -- its propositions are below p, and its brackets nest d deep at most
 unfoldable pub Fits : (p d : ℕ) → Label → Type 0

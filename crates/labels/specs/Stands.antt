@@ -1,9 +1,10 @@
 -- Which token may stand where in a label, and so which is the first that cannot: refusals 23 and 24.
-use Rattle.std.specs.Prelude.{◌≡◌, cond, ◌||◌, ℕ, zero, suc, eqb, ltb}
+use Rattle.std.specs.Prelude.{◌≡◌, cond, ℕ, zero, suc, ltb}
 use Rattle.automaton.specs.declared.Refusal.{Refusal}
 use Rattle.automaton.specs.declared.Refusal.TheVariants.{Foreign, TooDeep}
 use Rattle.tokens.specs.declared.Token.{Token}
-use Rattle.tokens.specs.Sorts as sort
+use Rattle.tokens.specs.declared.Sort.{Sort}
+use Rattle.tokens.specs.declared.Sort.TheVariants as sort
 
 -- a unit is wanted, or one has been read; with how much deeper brackets may nest, and how many are open
 pub data Stage : Type 0 where
@@ -30,18 +31,27 @@ ending zero = done
 ending (suc o) = refuse Foreign
 
 -- "23, outside this part": whatever else stands there
+
+-- where a unit is wanted
+abbrev pub wanted : (p d o : ℕ) → Sort → Next
+wanted p d o sort.True = to (have d o)
+wanted p d o sort.False = to (have d o)
+wanted p d o (sort.Number v) = cond (ltb v p) (to (have d o)) (refuse Foreign)
+wanted p d o sort.Not = to (want d o)
+wanted p d o sort.Group = opening d o
+wanted p d o _ = refuse Foreign
+
+-- behind a unit
+abbrev pub behind : (d o : ℕ) → Sort → Next
+behind d o sort.And = to (want d o)
+behind d o sort.Or = to (want d o)
+behind d o sort.GroupEnd = closing d o
+behind d o sort.LabelEnd = ending o
+behind d o _ = refuse Foreign
+
 abbrev pub step : (p : ℕ) → Stage → Token → Next
-step p (want d o) x =
-    cond (eqb x.sort sort.true || eqb x.sort sort.false) (to (have d o))
-    (cond (eqb x.sort sort.number) (cond (ltb x.value p) (to (have d o)) (refuse Foreign))
-    (cond (eqb x.sort sort.not) (to (want d o))
-    (cond (eqb x.sort sort.group) (opening d o)
-    (refuse Foreign))))
-step p (have d o) x =
-    cond (eqb x.sort sort.and || eqb x.sort sort.or) (to (want d o))
-    (cond (eqb x.sort sort.group_end) (closing d o)
-    (cond (eqb x.sort sort.label_end) (ending o)
-    (refuse Foreign)))
+step p (want d o) x = wanted p d o x.sort
+step p (have d o) x = behind d o x.sort
 
 -- From i on, at this stage, the first token that cannot stand there is refused. T gives the token at or after a place.
 pub data Fails (T : ℕ → Token) (p : ℕ) : Stage → (i : ℕ) → Refusal → Type 0 where

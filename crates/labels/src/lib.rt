@@ -4,19 +4,19 @@
 
 ghost use Rattle.std.specs.Prelude.{◌≡◌, ◌≢◌, length, ◌≤◌, ◌<◌};
 ghost use Rattle.tokens.specs.Tokens.{token_from};
-ghost use Rattle.tokens.specs.Sorts as sort;
+ghost use Rattle.tokens.specs.declared.Sort.TheVariants as sort;
 ghost use Rattle.labels.specs.Label.{prop, unit, whole};
 ghost use Rattle.labels.specs.Letters.{Agrees, Lettering};
-ghost use Rattle.labels.specs.Parts.{Reading, Whole, Inside, Nots, turned_of, ended_of, Atom};
+ghost use Rattle.labels.specs.Parts.{Reading, Whole, Nots, turned_of, ended_of, Atom};
 
 use automaton::Refusal;
 use tokens::{Sort, Token};
 
-// The letters of a label and the place behind it, or why none stands there.
+// The letters that make a label true, and the place behind it.
 #[derive(Clone, Copy)]
-pub enum Lettered {
-    Letters(u16, usize),
-    Refused(Refusal),
+pub struct Lettered {
+    pub set: u16,
+    pub next: usize,
 }
 
 // Round brackets nest so deep at most.
@@ -26,18 +26,18 @@ pub const DEEPEST: usize = 16;
 const ALL: u16 = 65535;
 
 // The letters of the label from a place to its `]`, and the place behind that.
-pub fn letters(text: &[u8], from: usize, props: usize) -> Lettered
+pub fn letters(text: &[u8], from: usize, props: usize) -> Result<Lettered, Refusal>
     requires from_in_bounds { from ≤ length text.now }
     requires props_bound { props ≤ 4 }
     ensures { Lettering (token_from text.now) props from result }
 {
-    let found = label(text, from, DEEPEST, props);
-    ended(text, found, Sort::LABEL_END)
+    let read = label(text, from, DEEPEST, props)?;
+    ended(text, read, Sort::LabelEnd)
 }
 
 // The letters of a label, whose brackets may nest `deeper` deep.
 #[cycle(label_unit)]
-fn label(text: &[u8], from: usize, deeper: usize, props: usize) -> Lettered
+fn label(text: &[u8], from: usize, deeper: usize, props: usize) -> Result<Lettered, Refusal>
     requires { (from ≤ length text.now) × (props ≤ 4) }
     ensures reading { Reading (token_from text.now) props whole deeper from result }
     ensures whole { Whole (token_from text.now) result }
@@ -46,21 +46,21 @@ fn label(text: &[u8], from: usize, deeper: usize, props: usize) -> Lettered
     let mut all = ALL;
     let mut at = from;
     loop {
-        let read = unit(text, at, deeper, props);
-        match read {
-            Lettered::Refused(refusal) => {
-                return Lettered::Refused(refusal);
+        let read = unit(text, at, deeper, props)?;
+        let x = tokens::token_from(text, read.next);
+        at = x.next;
+        all &= read.set;
+        match x.sort {
+            Sort::Or => {
+                any |= all;
+                all = ALL;
             }
-            Lettered::Letters(m, j) => {
-                let x = tokens::token_from(text, j);
-                all = all & m;
-                if x.sort == Sort::OR {
-                    any = any | all;
-                    all = ALL;
-                } else if x.sort != Sort::AND {
-                    return Lettered::Letters(any | all, j);
-                }
-                at = x.next;
+            Sort::And => {}
+            _ => {
+                return Ok(Lettered {
+                    set: any | all,
+                    next: read.next,
+                });
             }
         }
     }
@@ -68,21 +68,26 @@ fn label(text: &[u8], from: usize, deeper: usize, props: usize) -> Lettered
 
 // The letters of a unit: `t`, `f`, a proposition or a label in brackets, behind any number of `!`.
 #[cycle(label_unit)]
-fn unit(text: &[u8], from: usize, deeper: usize, props: usize) -> Lettered
+fn unit(text: &[u8], from: usize, deeper: usize, props: usize) -> Result<Lettered, Refusal>
     requires { (from ≤ length text.now) × (props ≤ 4) }
     ensures { Reading (token_from text.now) props unit deeper from result }
 {
     let row = nots(text, from);
-    let odd = row.odd;
     let x = row.behind;
-    if x.sort == Sort::GROUP {
-        if deeper == 0 {
-            return Lettered::Refused(Refusal::TooDeep(x.at));
+    match x.sort {
+        Sort::Group => {
+            if deeper == 0 {
+                return Err(Refusal::TooDeep(x.at));
+            }
+            let inner = label(text, x.next, deeper - 1, props)?;
+            let group = ended(text, inner, Sort::GroupEnd)?;
+            Ok(turned(row.odd, group))
         }
-        let inner = label(text, x.next, deeper - 1, props);
-        return turned(odd, ended(text, inner, Sort::GROUP_END));
+        _ => {
+            let read = atom(x, props)?;
+            Ok(turned(row.odd, read))
+        }
     }
-    turned(odd, atom(x, props))
 }
 
 // Whether a row of `!` is odd, the place behind it, and the token there.
@@ -97,18 +102,19 @@ fn nots(text: &[u8], from: usize) -> Row
     requires { from ≤ length text.now }
     ensures row { Nots (token_from text.now) from result.odd result.at }
     ensures behind { result.behind ≡ token_from text.now result.at }
-    ensures over { (token_from text.now result.at).sort ≢ sort.not }
+    ensures over { (token_from text.now result.at).sort ≢ sort.Not }
     ensures inside { result.at ≤ length text.now }
 {
     let mut at = from;
     let mut odd = false;
     loop {
         let x = tokens::token_from(text, at);
-        if x.sort == Sort::NOT {
-            odd = !odd;
-            at = x.next;
-        } else {
-            return Row { odd, at, behind: x };
+        match x.sort {
+            Sort::Not => {
+                odd = !odd;
+                at = x.next;
+            }
+            _ => return Row { odd, at, behind: x },
         }
     }
 }
@@ -117,52 +123,49 @@ fn nots(text: &[u8], from: usize) -> Row
 fn turned(odd: bool, read: Lettered) -> Lettered
     ensures { result ≡ turned_of odd read }
 {
-    match read {
-        Lettered::Letters(m, j) => {
-            if odd {
-                Lettered::Letters(m ^ ALL, j)
-            } else {
-                Lettered::Letters(m, j)
-            }
+    if odd {
+        Lettered {
+            set: read.set ^ ALL,
+            next: read.next,
         }
-        Lettered::Refused(refusal) => Lettered::Refused(refusal),
+    } else {
+        read
     }
 }
 
 // What was read, if the token behind it is the one that ends it.
-fn ended(text: &[u8], read: Lettered, end: u8) -> Lettered
-    requires { Inside (length text.now) read }
+fn ended(text: &[u8], read: Lettered, end: Sort) -> Result<Lettered, Refusal>
+    requires { read.next ≤ length text.now }
     ensures { result ≡ ended_of (token_from text.now) end read }
 {
-    match read {
-        Lettered::Letters(m, j) => {
-            let x = tokens::token_from(text, j);
-            if x.sort == end {
-                Lettered::Letters(m, x.next)
-            } else {
-                Lettered::Refused(Refusal::Foreign(x.at))
-            }
-        }
-        Lettered::Refused(refusal) => Lettered::Refused(refusal),
+    let x = tokens::token_from(text, read.next);
+    if x.sort != end {
+        return Err(Refusal::Foreign(x.at));
     }
+    Ok(Lettered {
+        set: read.set,
+        next: x.next,
+    })
 }
 
 // The letters of `t`, `f` or a proposition.
-fn atom(x: Token, props: usize) -> Lettered
-    requires over { (x.sort ≢ sort.group) × (x.sort ≢ sort.not) }
+fn atom(x: Token, props: usize) -> Result<Lettered, Refusal>
+    requires over { (x.sort ≢ sort.Group) × (x.sort ≢ sort.Not) }
     requires props_bound { props ≤ 4 }
     ensures { Atom props x result }
 {
-    if x.sort == Sort::TRUE {
-        return Lettered::Letters(ALL, x.next);
-    }
-    if x.sort == Sort::FALSE {
-        return Lettered::Letters(0, x.next);
-    }
-    if x.sort == Sort::NUMBER && x.value < props {
-        return Lettered::Letters(column(x.value), x.next);
-    }
-    Lettered::Refused(Refusal::Foreign(x.at))
+    let set = match x.sort {
+        Sort::True => ALL,
+        Sort::False => 0,
+        Sort::Number(i) => {
+            if props <= i {
+                return Err(Refusal::Foreign(x.at));
+            }
+            column(i)
+        }
+        _ => return Err(Refusal::Foreign(x.at)),
+    };
+    Ok(Lettered { set, next: x.next })
 }
 
 // The letters of which a proposition holds.
@@ -170,14 +173,10 @@ fn column(i: usize) -> u16
     requires { i < 4 }
     ensures { Agrees result (prop i) }
 {
-    if i == 0 {
-        return 43690;
+    match i {
+        0 => 0xaaaa,
+        1 => 0xcccc,
+        2 => 0xf0f0,
+        _ => 0xff00,
     }
-    if i == 1 {
-        return 52428;
-    }
-    if i == 2 {
-        return 61680;
-    }
-    65280
 }

@@ -1,4 +1,3 @@
-pub mod Cells
 pub mod Stored
 pub mod Seeking
 pub mod Sharing

@@ -1,9 +1,5 @@
 -- The candidates of a letter, member by member of the set that they lead to.
-use mathlib.Core.Path.{◌≡◌}
-use mathlib.Core.Logic.{◌⊎◌, inl, inr}
-use mathlib.Core.List.{List}
-use Prim.Native.Nat.{ℕ, ◌+◌, ◌*◌}
-use native.Mathlib.Omega.{arith}
+use Rattle.std.proofs.Common.{◌≡◌, ◌⊎◌, inl, inr, List, ℕ, ◌+◌, ◌*◌, arith}
 use Rattle.games.specs.Game.{at}
 use Rattle.words.specs.Word.{In, Pop, Minus, Joined}
 use Rattle.words.proofs.Sets.{empty, pop_cases, pop_sub, minus-cases, minus-sub, minus-off, joined_in_left, joined_in_right, joined-cases}

@@ -1,19 +1,10 @@
 -- Laws of cutting: the first piece ends at the first byte that parts, and the rest is cut as it stands.
-use mathlib.Core.Path.{◌≡◌, refl, sym, ap, ◌∙◌}
-use mathlib.Core.Bool.{Bool, true, false, cond}
-use mathlib.Core.List.{List, [], ◌∷◌}
-use Prim.Native.Nat.{ℕ, suc, ◌+◌, ◌-◌, ◌≤◌, ◌<◌}
-use native.Mathlib.Numerals.{add-one}
-use native.Mathlib.Omega.{arith}
-use borrow.Author.Tests.{ne_eqb, lt-ltb, le-ltb}
-use lib.Dec.{eqb, ltb}
-use lib.ListN.{length, take, drop, length-take, length-drop, drop_of_length-le}
-use lib.Seq.{drop-cons, drop-drop, take-length}
+use Rattle.std.proofs.Common.{None, Option, ◌≡◌, refl, sym, ap, ◌∙◌, Bool, true, false, cond, List, [], ◌∷◌, ℕ, suc, ◌+◌, ◌-◌, ◌≤◌, ◌<◌, add-one, arith, ne_eqb, lt-ltb, le-ltb, eqb, ltb, length, take, drop, length-take, length-drop, drop_of_length-le, drop-cons, drop-drop}
+use lib.Seq.{take-length}
 use Rattle.lines.specs.Search.{slice, index_after, index_of}
 use Rattle.fields.proofs.Tests.{by_test}
 use Rattle.fields.specs.Bytes.{newline}
 use Rattle.lines.specs.declared.line.Line.{Line}
-use Rattle.lines.specs.declared.line.Line.TheVariants as line
 use Rattle.lines.specs.declared.reader.Read.{Read}
 use Rattle.lines.specs.Lines.{onto, cut, line_of, lines_in, lines_of}
 use Rattle.lines.specs.Reader.{far, read_at}
@@ -70,7 +61,7 @@ module _ (s : List ℕ) (at : ℕ) where
   unfolding read_at
   read-ended h = simp (lt-ltb _ _ h)
 
-  pub read_open : length s ≤ at + far s at → read_at s at ≡ record { line = line.Wrong; past = length s }
+  pub read_open : length s ≤ at + far s at → read_at s at ≡ record { line = None; past = length s }
   unfolding read_at
   read_open h = simp (le-ltb _ _ h)
 
@@ -84,7 +75,7 @@ module _ (s : List ℕ) (at : ℕ) where
       ap lines_in (cut-next newline at (at + far s at) s far_found h ∙ simp (wide, add-one)) ∙
       lines-first (take (far s at) (drop at s)) (drop (suc (at + far s at)) s)
 
-  lines_open : at < length s → length s ≤ at + far s at → lines_of (drop at s) ≡ line.Wrong ∷ []
+  lines_open : at < length s → length s ≤ at + far s at → lines_of (drop at s) ≡ None ∷ []
   unfolding lines_of lines_in
   lines_open some h =
       let wide : length (take (at + far s at - at) (drop at s)) ≡ length s - at = simp (length-take, length-drop) (omega arith) in
@@ -105,7 +96,7 @@ lines_next s at some =
     (λ h. lines-ended s at h ∙ ap (λ (r : Read). r.line ∷ lines_of (drop r.past s)) (sym (read-ended s at h)))
     (λ h.
     lines_open s at some h ∙
-    ap (λ (ls : List Line). line.Wrong ∷ ls) (sym (lines_end s (length s) (omega arith))) ∙
+    ap (λ (ls : List (Option Line)). None ∷ ls) (sym (lines_end s (length s) (omega arith))) ∙
     ap (λ (r : Read). r.line ∷ lines_of (drop r.past s)) (sym (read_open s at h)))
 
 pub past_more : (s : List ℕ) (at : ℕ) → at < length s → at < (read_at s at).past

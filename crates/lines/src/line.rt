@@ -1,9 +1,9 @@
 // One line of the text: its fields, and what they say.
-ghost use Rattle.std.specs.Prelude.{◌≡◌};
-ghost use Rattle.lines.specs.Lines.{word_of, one, triple as triple_of, three, line_of};
+ghost use Rattle.std.specs.Prelude.{◌≡◌, ◌∷◌, option_map};
+ghost use Rattle.fields.specs.Bytes.{tab};
+ghost use Rattle.lines.specs.Lines.{cut, fields_of, word_of, one, three, line_of};
 
 use super::scan;
-use fields::Number;
 
 // The word that a line begins with.
 #[derive(Clone, Copy)]
@@ -12,119 +12,84 @@ pub enum Word {
     Mode,
     Accept,
     Move,
-    Other,
 }
 
-// Three numbers, if the three fields are numbers.
-#[derive(Clone, Copy)]
-pub enum Three {
-    Are(usize, usize, usize),
-    Not,
-}
-
-// What a line says; `Wrong` has no form that a line may have.
+// What a line says.
 #[derive(Clone, Copy)]
 pub enum Line {
     Automaton(usize, usize, usize),
     Mode(usize),
     Accept(usize),
     Move(usize, usize, usize),
-    Wrong,
 }
 
-// What a line says, its newline left out.
-pub fn read(line: &[u8]) -> Line
+// What a line says, its newline left out; none if it has no form that a line may have.
+#[tactic(auto, unfolding(crate::specs::Lines::meaning))]
+pub fn read(line: &[u8]) -> Option<Line>
     ensures { result ≡ line_of line.now }
 {
-    let a = scan::find(line, 0, line.len(), fields::TAB);
-    if line.len() <= a {
-        return Line::Wrong;
+    let (word, rest) = front(line);
+    let word = word_of(word)?;
+    let (first, rest) = front(rest?);
+    let x = fields::read_number(first)?;
+    let Some(rest) = rest else {
+        return one(word, x);
+    };
+    let (second, rest) = front(rest);
+    let y = fields::read_number(second)?;
+    let (third, rest) = front(rest?);
+    let z = fields::read_number(third)?;
+    match rest {
+        None => three(word, x, y, z),
+        Some(_) => None,
     }
-    let w = word_of(&line[0..a]);
-    let b = scan::find(line, a + 1, line.len(), fields::TAB);
-    let x = fields::read_number(&line[a + 1..b]);
-    if line.len() <= b {
-        return with_one(w, x);
+}
+
+// The first field of a line, and what stands behind the tab that ends it, if a tab does.
+fn front(line: &[u8]) -> (&[u8], Option<&[u8]>)
+    ensures { cut tab line.now ≡ result.0.now ∷ fields_of (option_map (λ rest. rest.now) result.1) }
+{
+    match scan::find(line, 0, line.len(), fields::TAB) {
+        Some(end) => (&line[..end], Some(&line[end + 1..])),
+        None => (line, None),
     }
-    let c = scan::find(line, b + 1, line.len(), fields::TAB);
-    let y = fields::read_number(&line[b + 1..c]);
-    if line.len() <= c {
-        return Line::Wrong;
-    }
-    let d = scan::find(line, c + 1, line.len(), fields::TAB);
-    let z = fields::read_number(&line[c + 1..d]);
-    if d < line.len() {
-        return Line::Wrong;
-    }
-    let t = triple(x, y, z);
-    with_three(w, t)
 }
 
 // The word that a field is.
-fn word_of(field: &[u8]) -> Word
+fn word_of(field: &[u8]) -> Option<Word>
     ensures { result ≡ word_of field.now }
 {
     if check::same(field, b"automaton") {
-        return Word::Automaton;
-    }
-    if check::same(field, b"mode") {
-        return Word::Mode;
-    }
-    if check::same(field, b"accept") {
-        return Word::Accept;
-    }
-    if check::same(field, b"move") {
-        return Word::Move;
-    }
-    Word::Other
-}
-
-// A line of a word and one field.
-fn with_one(w: Word, x: Number) -> Line
-    ensures { result ≡ one w x }
-{
-    match w {
-        Word::Mode => match x {
-            Number::Is(m) => Line::Mode(m),
-            Number::Not => Line::Wrong,
-        },
-        Word::Accept => match x {
-            Number::Is(q) => Line::Accept(q),
-            Number::Not => Line::Wrong,
-        },
-        Word::Automaton => Line::Wrong,
-        Word::Move => Line::Wrong,
-        Word::Other => Line::Wrong,
+        Some(Word::Automaton)
+    } else if check::same(field, b"mode") {
+        Some(Word::Mode)
+    } else if check::same(field, b"accept") {
+        Some(Word::Accept)
+    } else if check::same(field, b"move") {
+        Some(Word::Move)
+    } else {
+        None
     }
 }
 
-fn triple(x: Number, y: Number, z: Number) -> Three
-    ensures { result ≡ triple_of x y z }
+// A line of a word and one number.
+fn one(word: Word, x: usize) -> Option<Line>
+    ensures { result ≡ one word x }
 {
-    match x {
-        Number::Is(a) => match y {
-            Number::Is(b) => match z {
-                Number::Is(c) => Three::Are(a, b, c),
-                Number::Not => Three::Not,
-            },
-            Number::Not => Three::Not,
-        },
-        Number::Not => Three::Not,
+    match word {
+        Word::Mode => Some(Line::Mode(x)),
+        Word::Accept => Some(Line::Accept(x)),
+        Word::Automaton | Word::Move => None,
     }
 }
 
-// A line of a word and three fields.
-fn with_three(w: Word, t: Three) -> Line
-    ensures { result ≡ three t w }
+// A line of a word and three numbers.
+fn three(word: Word, x: usize, y: usize, z: usize) -> Option<Line>
+    ensures { result ≡ three word x y z }
 {
-    match t {
-        Three::Are(x, y, z) => match w {
-            Word::Automaton => Line::Automaton(x, y, z),
-            Word::Move => Line::Move(x, y, z),
-            Word::Mode => Line::Wrong,
-            Word::Accept => Line::Wrong,
-            Word::Other => Line::Wrong,
-        },
-        Three::Not => Line::Wrong,
+    match word {
+        Word::Automaton => Some(Line::Automaton(x, y, z)),
+        Word::Move => Some(Line::Move(x, y, z)),
+        Word::Mode | Word::Accept => None,
     }
 }

@@ -1,12 +1,7 @@
 -- Pairs are read off a table in an opened arena, without the moves, as on the job's board.
-use mathlib.Core.Path.{◌≡◌, refl, sym, ap, ◌∙◌}
-use mathlib.Core.Bool.{Bool, cond}
-use mathlib.Core.List.{List, [], ◌++◌}
-use Prim.Native.Nat.{ℕ, zero, suc, ◌*◌, ◌/◌, ◌%◌}
-use lib.ListN.{length}
+use Rattle.std.proofs.Common.{Ok, ◌≡◌, refl, sym, ap, ◌∙◌, Bool, cond, List, [], ◌++◌, ℕ, zero, suc, ◌*◌, ◌/◌, ◌%◌, length}
 use Rattle.simulation.specs.Answers.{below, relation}
 use Rattle.arena.specs.declared.Arena.{Arena}
-use Rattle.arena.specs.declared.Opened.TheVariants.{Open}
 use Rattle.arena.specs.Arena.{board_in, opened}
 use Rattle.arena.specs.Job.{Job, mode_of}
 use Rattle.arena.specs.Seats.{bare}
@@ -25,7 +20,7 @@ bare-lines g marks moves t i (suc c) =
     ap (λ (b : ℕ → ℕ → Bool). cond (b q r) (pair_line B g.mode t i) [] ++ pair_lines_from (bare g marks) g.mode t (suc i) c) (bare-below g marks moves t g.mode)
     ∙ ap (λ (l : List ℕ). cond (below B g.mode t q r) (pair_line B g.mode t i) [] ++ l) (bare-lines g marks moves t (suc i) c)
 
-module _ (j : Job) (t : List ℕ) (g : Arena) (o : opened j (length t) ≡ Open g) where
+module _ (j : Job) (t : List ℕ) (g : Arena) (o : opened j (length t) ≡ Ok g) where
   pub open_lines : pair_lines_from (bare g j.board.marks) g.mode t 0 (g.states * g.states) ≡ pair_lines_from j.board (mode_of j.mode) t 0 (j.board.n * j.board.n)
   open_lines =
       bare-lines g j.board.marks j.board.moves t 0 (g.states * g.states)

@@ -1,16 +1,8 @@
 -- What the programs print has room in 4,096 bytes.
-use mathlib.Core.Path.{◌≡◌, refl}
-use mathlib.Core.Logic.{◌≢◌}
-use mathlib.Core.Bool.{Bool, true, false, cond}
-use mathlib.Core.List.{List, [], ◌∷◌, ◌++◌}
-use Prim.Native.Nat.{ℕ, zero, suc, ◌+◌, ◌*◌, ◌/◌, ◌%◌, ◌≤◌, ◌<◌}
-use native.Mathlib.Nat.{mul-le-mul}
-use native.Mathlib.Omega.{arith}
-use lib.ListN.{length, length-append}
+use Rattle.std.proofs.Common.{None, ◌≡◌, refl, ◌≢◌, Bool, true, false, cond, List, [], ◌∷◌, ◌++◌, ℕ, zero, suc, ◌+◌, ◌*◌, ◌/◌, ◌%◌, ◌≤◌, ◌<◌, mul-le-mul, arith, length, length-append}
 use Rattle.fields.specs.Numbers.{shown}
 use Rattle.fields.proofs.Width.{shown-most}
 use Rattle.automaton.specs.declared.Mode.{Mode}
-use Rattle.automaton.specs.declared.Named.TheVariants.{Unknown}
 use Rattle.automaton.specs.declared.Refusal.{Refusal}
 use Rattle.automaton.specs.Answer.{number_of, place_of}
 use Rattle.automaton.specs.Board.{Board}
@@ -53,7 +45,7 @@ refusal_fits r h =
 
 -- ---- a relation
 
-mode-most : (mode : ℕ) → name_of mode ≢ Unknown → mode < 4
+mode-most : (mode : ℕ) → name_of mode ≢ None → mode < 4
 mode-most zero n = omega arith
 mode-most (suc zero) n = omega arith
 mode-most (suc (suc zero)) n = omega arith

@@ -1,22 +1,16 @@
 -- Within the limits of the programs: the numbers are small, and no call that the report is made of is refused.
-use mathlib.Core.Path.{◌≡◌, refl, sym, ap, ◌∙◌, subst}
-use mathlib.Core.List.{List, [], ◌∷◌}
-use Prim.Native.Nat.{ℕ, ◌-◌, ◌*◌, ◌≤◌}
-use native.Mathlib.Nat.{mul-le-mul}
-use native.Mathlib.Omega.{arith}
-use borrow.Rule.Slice.PartMut.{mid_of, mid_len}
-use lib.ListN.{length}
+use Rattle.std.proofs.Common.{Err, Ok, Result, ◌≡◌, refl, sym, ap, ◌∙◌, subst, List, [], ◌∷◌, ℕ, ◌*◌, ◌≤◌, mul-le-mul, length}
 use Rattle.games.specs.Lift.{AtRest}
 use Rattle.games.specs.Settle.{settle}
 use Rattle.games.proofs.Settle.{settle-rest}
 use Rattle.automaton.specs.declared.Automaton.{Automaton}
 use Rattle.automaton.specs.declared.Refusal.{Refusal}
-use Rattle.automaton.specs.Answer.{valued, Fault, first_fault, unless}
+use Rattle.automaton.specs.Answer.{answered, valued, value, Fault, first_fault, unless}
 use Rattle.automaton.specs.Check.{states_fault, letters_fault, mode_fault}
 use Rattle.automaton.proofs.Fault.{found, unless-number}
+use Rattle.automaton.proofs.One.{one-answered}
 use Rattle.simulation.specs.Answers.{relation, related}
 use Rattle.simulation.proofs.Limits.{size-within}
-use Rattle.arena.specs.declared.Opened.TheVariants.{Shut}
 use Rattle.arena.specs.Arena.{opened}
 use Rattle.arena.specs.Job.{Job, job_of, mode_of, game_of}
 use Rattle.arena.specs.Refusals.{Fitting, sizing}
@@ -26,12 +20,8 @@ use Rattle.relation.specs.Calls.{relating}
 use Rattle.relation.proofs.Accepted.{relation-does}
 use Rattle.printer.specs.Small.{Small}
 
--- the first n of a buffer are n
-pub lent-long : (n : ℕ) (xs : List ℕ) → n ≤ length xs → length (mid_of 0 (n - 0) xs) ≡ n
-lent-long n xs h = mid_len 0 n xs h ∙ omega arith
-
 -- an arena is opened for a table that fits
-pub not_shut : (j : Job) (t : List ℕ) → Fitting j t → (r : Refusal) → opened j (length t) ≡ Shut r → ⊥
+pub not_shut : (j : Job) (t : List ℕ) → Fitting j t → (r : Refusal) → opened j (length t) ≡ Err r → ⊥
 not_shut j t f r o = found (sym (shut_fault j t r o) ∙ (open_line j t).1 f)
 
 module _ (j : Job) (s : Small j) where
@@ -52,6 +42,10 @@ module _ (j : Job) (s : Small j) where
     pub settled_relates : (out : List ℕ) → length out ≡ j.board.n * j.board.n
         → relating j t out ≡ record { answer = valued (related j.board (mode_of j.mode) t); left = relation j.board (mode_of j.mode) t }
     settled_relates out l = relation-does j t out s.0 rests l
+
+-- a result told as a value is that value
+pub valued_ok : (r : Result ℕ Refusal) (n : ℕ) → answered valued r ≡ valued n → r ≡ Ok n
+valued_ok r n e = one-answered valued (λ x. refl) (λ x y e. ap value e) r (Ok n) e
 
 -- P, as `positions` answers it
 pub sizes : (a : Automaton) (marks moves : List ℕ) (mode : ℕ) → Small (job_of a marks moves mode) → sizing a mode ≡ valued (game_of (job_of a marks moves mode)).P

@@ -9,11 +9,9 @@ pub fn put(out: &mut [u8], at: usize, word: &[u8], values: &[usize]) -> usize
     ensures out_after { out.new ≡ laid at (line word.now values.now) out.old }
 {
     let mut to = fields::put_bytes(out, at, word);
-    let mut i = 0;
-    while i < values.len() {
+    for &value in values {
         let past = fields::put(out, to, fields::TAB);
-        to = fields::put_number(out, past, values[i]);
-        i += 1;
+        to = fields::put_number(out, past, value);
     }
     fields::put(out, to, fields::NEWLINE)
 }

@@ -1,11 +1,8 @@
 -- When `quotient` is accepted, what it then does, and that a refused one leaves all four buffers as they were.
-use mathlib.Core.Path.{◌≡◌, refl, ap, ◌∙◌}
+use Rattle.std.proofs.Common.{◌≡◌, refl, ap, ◌∙◌, ◌≢◌, ◌↔◌, ◌⊎◌, Bool, true, ◌&&◌, eqb, length, eqb-true, ne_eqb}
+use mathlib.Core.Bool.{and-eq-true_iff}
+use borrow.Author.Tests.{not-false}
 use mathlib.Core.Logic.Iff
-use mathlib.Core.Logic.{◌≢◌, ◌↔◌, ◌⊎◌}
-use mathlib.Core.Bool.{Bool, true, ◌&&◌, and-eq-true_iff}
-use lib.Dec.{eqb}
-use lib.ListN.{length}
-use borrow.Author.Tests.{eqb-true, ne_eqb, not-false}
 use Rattle.automaton.specs.declared.Refusal.TheVariants.{TableLength, OutputLength, WrongMode}
 use Rattle.automaton.specs.Answer.{refused, Fault}
 use Rattle.automaton.specs.Board.{Board}

@@ -1,18 +1,11 @@
 -- What admitting a quotient tells: which of the refusals 1 to 8, 17 and 9 there is, or that there is none.
-use mathlib.Core.Path.{◌≡◌, refl, sym, ap, ◌∙◌}
+use Rattle.std.proofs.Common.{◌≡◌, ◌≢◌, ◌⊎◌, refl, sym, ap, ◌∙◌, inl, inr, ⊎_elim, true, false, List, [], ◌∷◌, ℕ, zero, suc, length, Ok, Err, arith}
 use mathlib.Core.Logic.Iff
-use mathlib.Core.Logic.{◌≢◌, ◌⊎◌, inl, inr, ⊎_elim}
-use mathlib.Core.Bool.{true, false}
-use mathlib.Core.List.{List, [], ◌∷◌}
-use Prim.Native.Nat.{ℕ, zero, suc}
-use native.Mathlib.Omega.{arith}
-use lib.ListN.{length}
 use Rattle.automaton.specs.declared.Refusal.{Refusal}
 use Rattle.automaton.specs.declared.Refusal.TheVariants.{WrongMode}
 use Rattle.automaton.specs.Answer.{Fault, none, fault, first_fault}
 use Rattle.automaton.proofs.Fault.{Line, ◌then◌, end, table-line, all_none, found}
 use Rattle.arena.specs.declared.Arena.{Arena}
-use Rattle.arena.specs.declared.Opened.TheVariants.{Open, Shut}
 use Rattle.arena.specs.Arena.{arena_of, opened_by, entered, fitted, opened}
 use Rattle.arena.specs.Job.{Job, mode_of, game_of}
 use Rattle.arena.specs.Refusals.{job_fault, length_fault, Fitting}
@@ -23,11 +16,11 @@ use Rattle.quotient.specs.Calls.{merges, Mergeable, merge_fault, admit_fault}
 -- ---- refused before the length is looked at
 
 module _ (j : Job) (entries : ℕ) where
-  pub admitted_shut : (r : Refusal) → entered j ≡ Shut r → Shut r ≡ admitted j entries
+  pub admitted_shut : (r : Refusal) → entered j ≡ Err r → Err r ≡ admitted j entries
   unfolding admitted
   admitted_shut r e = simp (enter_shut j r e)
 
-  pub admitted-wrong : (g : Arena) → entered j ≡ Open g → merges g.mode ≡ false → Shut WrongMode ≡ admitted j entries
+  pub admitted-wrong : (g : Arena) → entered j ≡ Ok g → merges g.mode ≡ false → Err WrongMode ≡ admitted j entries
   unfolding admitted
   admitted-wrong g e n =
       let (f, d) = enter_open j g e in
@@ -71,19 +64,19 @@ module _ (j : Job) (entries : ℕ) where
       let rest = length_fault (game_of j).P entries ∷ [] in
       sym (ap (λ (f : Fault). opened_by f (arena_of j.board (mode_of j.mode))) (ap (λ (f : Fault). first_fault (job_fault j ∷ f ∷ rest)) e ∙ passed_over (job_fault j) rest))
 
-  pub admitted-fitted : (g : Arena) → entered j ≡ Open g → merges g.mode ≡ true → fitted g entries ≡ admitted j entries
+  pub admitted-fitted : (g : Arena) → entered j ≡ Ok g → merges g.mode ≡ true → fitted g entries ≡ admitted j entries
   admitted-fitted g e n =
       let taken : merges (mode_of j.mode) ≡ true = ap (λ (h : Arena). merges h.mode) (enter_open j g e).1 ∙ n in
       opened-fitted j entries g e ∙ mode-taken (simp taken)
 
-  pub admit_shut : (r : Refusal) → admitted j entries ≡ Shut r → admit_fault j entries ≡ fault r
+  pub admit_shut : (r : Refusal) → admitted j entries ≡ Err r → admit_fault j entries ≡ fault r
   unfolding admitted
   admit_shut r e = by_shut (admit_fault j entries) _ r e
 
-  pub admit_open : (g : Arena) → admitted j entries ≡ Open g → admit_fault j entries ≡ none
+  pub admit_open : (g : Arena) → admitted j entries ≡ Ok g → admit_fault j entries ≡ none
   unfolding admitted
   admit_open g e = (by_open (admit_fault j entries) _ g e).0
 
   -- what was admitted was opened
-  pub opened_too : (g : Arena) → admitted j entries ≡ Open g → opened j entries ≡ Open g
+  pub opened_too : (g : Arena) → admitted j entries ≡ Ok g → opened j entries ≡ Ok g
   opened_too g e = mode-taken ((all_none (job_fault j ∷ merge_fault (mode_of j.mode) ∷ length_fault (game_of j).P entries ∷ [])).0 (admit_open g e)).1.0 ∙ e

@@ -1,14 +1,6 @@
 -- What an accepted `quotient` merges: the classes are those of the states that win against each other, and the bytes written are the quotient.
-use mathlib.Core.Path.{◌≡◌, refl, sym, ap, ◌∙◌, subst}
+use Rattle.std.proofs.Common.{◌≡◌, refl, sym, ap, ◌∙◌, subst, ◌↔◌, true, List, ◌++◌, ℕ, ◌*◌, ◌-◌, ◌/◌, ◌<◌, arith, length, get_or, take, replicate, take_at, eqb-true, eq-eqb}
 use mathlib.Core.Logic.Iff
-use mathlib.Core.Logic.{◌↔◌}
-use mathlib.Core.Bool.{true}
-use mathlib.Core.List.{List, ◌++◌}
-use Prim.Native.Nat.{ℕ, ◌*◌, ◌-◌, ◌/◌, ◌<◌}
-use native.Mathlib.Omega.{arith}
-use lib.ListN.{length, get_or, take, replicate}
-use lib.Seq.{take_at}
-use borrow.Author.Tests.{eqb-true, eq-eqb}
 use Rattle.automaton.specs.declared.Mode.{Mode}
 use Rattle.automaton.specs.Board.{Board, Formed, accepts}
 use Rattle.automaton.specs.Effect.{Effect}

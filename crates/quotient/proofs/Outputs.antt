@@ -1,11 +1,6 @@
 -- What `quotient` does where it is not admitted, and where it is, by the lengths of its outputs.
-use mathlib.Core.Path.{◌≡◌, sym, ap, ◌∙◌}
-use mathlib.Core.Logic.{◌≢◌}
+use Rattle.std.proofs.Common.{◌≡◌, ◌≢◌, sym, ap, ◌∙◌, List, ℕ, length, Ok, Err, eq-eqb, ne_eqb}
 use mathlib.Core.Bool.{and-false}
-use mathlib.Core.List.{List}
-use Prim.Native.Nat.{ℕ}
-use borrow.Author.Tests.{eq-eqb, ne_eqb}
-use lib.ListN.{length}
 use Rattle.automaton.specs.declared.Refusal.{Refusal}
 use Rattle.automaton.specs.declared.Refusal.TheVariants.{OutputLength}
 use Rattle.automaton.specs.Answer.{refused, Fault, none, fault}
@@ -13,7 +8,6 @@ use Rattle.automaton.specs.Board.{Board}
 use Rattle.automaton.specs.Effect.{does}
 use Rattle.simulation.specs.Answers.{settled}
 use Rattle.arena.specs.declared.Arena.{Arena}
-use Rattle.arena.specs.declared.Opened.TheVariants.{Open, Shut}
 use Rattle.arena.specs.Arena.{arena_of, board_in}
 use Rattle.arena.specs.Job.{Job, mode_of}
 use Rattle.arena.proofs.Open.{open_is}
@@ -38,11 +32,11 @@ module _ (B : Board) (x : Buffers) where
 
 -- ---- the call
 
-pub shut_refused : (j : Job) (x : Buffers) (r : Refusal) → admitted j (length x.table) ≡ Shut r → quotienting j x ≡ record { answer = refused r; left = x }
+pub shut_refused : (j : Job) (x : Buffers) (r : Refusal) → admitted j (length x.table) ≡ Err r → quotienting j x ≡ record { answer = refused r; left = x }
 unfolding quotienting
 shut_refused j x r e = ap (λ (f : Fault). does f x (merging_unless (output_fault j.board x) j x)) (admit_shut j (length x.table) r e)
 
-module _ (j : Job) (x : Buffers) (g : Arena) (o : admitted j (length x.table) ≡ Open g) where
+module _ (j : Job) (x : Buffers) (g : Arena) (o : admitted j (length x.table) ≡ Ok g) where
   -- the arena is the board's
   arena_is : arena_of j.board (mode_of j.mode) ≡ g
   arena_is = (open_is j x.table g (opened_too j (length x.table) g o)).1

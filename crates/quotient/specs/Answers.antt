@@ -1,9 +1,7 @@
--- The number, place and values of each case of quotient's answer. A refusal's are those of `automaton`.
-use Rattle.automaton.specs.Answer.{Answer, refused}
+-- The answer of an accepted quotient: its counts as the values.
+use Rattle.automaton.specs.Answer.{Answer}
 use Rattle.quotient.specs.Calls.{counted}
-use Rattle.quotient.specs.declared.Merged.{Merged}
-use Rattle.quotient.specs.declared.Merged.TheVariants.{Counts, Refused}
+use Rattle.quotient.specs.declared.Counts.{Counts}
 
-abbrev pub of_merged : Merged → Answer
-of_merged (Counts classes moves start) = counted classes moves start
-of_merged (Refused r) = refused r
+abbrev pub merged : Counts → Answer
+merged c = counted c.classes c.moves c.start

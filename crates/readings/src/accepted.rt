@@ -1,17 +1,16 @@
 // Texts that are read.
-use super::printed::print;
 use super::tried::{try_roomy, try_text};
 use std::io;
 
 // Document 01's example.
-pub const EXAMPLE: [u8; 54] =
-    *b"automaton\t2\t1\t0\nmode\t2\naccept\t1\nmove\t0\t0\t1\nmove\t1\t0\t0\n";
+pub const EXAMPLE: &[u8] =
+    b"automaton\t2\t1\t0\nmode\t2\naccept\t1\nmove\t0\t0\t1\nmove\t1\t0\t0\n";
 
 // The example in buffers that it fills, and in longer ones.
 fn example(rt: &impl Print) -> io::Result<()> {
-    try_text(rt, &EXAMPLE, 2, 6)?;
-    try_text(rt, &EXAMPLE, 3, 8)?;
-    try_roomy(rt, &EXAMPLE)
+    try_text(rt, EXAMPLE, 2, 6)?;
+    try_text(rt, EXAMPLE, 3, 8)?;
+    try_roomy(rt, EXAMPLE)
 }
 
 fn others(rt: &impl Print) -> io::Result<()> {
@@ -28,7 +27,7 @@ fn others(rt: &impl Print) -> io::Result<()> {
 }
 
 pub fn run(rt: &impl Print) -> io::Result<()> {
-    print(rt, b"accepted\n")?;
+    println!(rt; "accepted")?;
     example(rt)?;
     others(rt)
 }

@@ -3,7 +3,6 @@
 
 mod accepted; // accepted.rt: texts that are read
 mod numbers; // numbers.rt: texts of right form that are refused, by the number
-mod printed; // printed.rt: writing to standard output
 mod reports; // reports.rt: what the relation program prints
 mod shape; // shape.rt: texts that are too long, or of wrong form or order
 mod tried; // tried.rt: one text read, and what is printed of it

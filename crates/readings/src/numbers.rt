@@ -1,20 +1,19 @@
 // Texts of right form that are refused. For most numbers the last text has a fault with a later number too.
-use super::printed::print;
 use super::tried::{try_roomy, try_text};
 use std::io;
 
 // Refusals 1, 2 and 21.
 fn limits(rt: &impl Print) -> io::Result<()> {
-    print(rt, b"1: states\n")?;
+    println!(rt; "1: states")?;
     try_roomy(rt, b"automaton\t0\t1\t0\n")?;
     try_roomy(rt, b"automaton\t65\t1\t0\n")?;
     try_roomy(rt, b"automaton\t0\t0\t0\n")?;
-    print(rt, b"2: letters\n")?;
+    println!(rt; "2: letters")?;
     try_roomy(rt, b"automaton\t2\t0\t0\n")?;
     try_roomy(rt, b"automaton\t2\t17\t0\n")?;
     try_roomy(rt, b"automaton\t17\t17\t0\n")?;
     try_roomy(rt, b"automaton\t2\t17\t0\naccept\t2\n")?;
-    print(rt, b"21: the limits of the programs\n")?;
+    println!(rt; "21: the limits of the programs")?;
     try_roomy(rt, b"automaton\t17\t1\t0\n")?;
     try_roomy(rt, b"automaton\t64\t1\t0\n")?;
     try_roomy(rt, b"automaton\t2\t9\t0\n")?;
@@ -24,13 +23,13 @@ fn limits(rt: &impl Print) -> io::Result<()> {
 
 // Refusals 3 and 4.
 fn states(rt: &impl Print) -> io::Result<()> {
-    print(rt, b"3: accept lines\n")?;
+    println!(rt; "3: accept lines")?;
     try_roomy(rt, b"automaton\t2\t1\t0\naccept\t1\naccept\t0\naccept\t1\n")?; // not ascending
     try_roomy(rt, b"automaton\t2\t1\t0\naccept\t0\naccept\t0\n")?; // twice the same
     try_roomy(rt, b"automaton\t2\t1\t0\naccept\t2\n")?; // not below n
     try_roomy(rt, b"automaton\t2\t1\t0\naccept\t257\n")?; // below n in a byte
     try_roomy(rt, b"automaton\t2\t1\t2\naccept\t0\naccept\t1\naccept\t2\n")?;
-    print(rt, b"4: start\n")?;
+    println!(rt; "4: start")?;
     try_roomy(rt, b"automaton\t2\t1\t2\n")?;
     try_roomy(rt, b"automaton\t2\t1\t256\n")?;
     try_roomy(rt, b"automaton\t2\t1\t65535\n")?;
@@ -39,7 +38,7 @@ fn states(rt: &impl Print) -> io::Result<()> {
 
 // Refusals 6 and 7.
 fn moves(rt: &impl Print) -> io::Result<()> {
-    print(rt, b"6: states and letters of moves\n")?;
+    println!(rt; "6: states and letters of moves")?;
     try_roomy(rt, b"automaton\t2\t1\t0\nmove\t0\t0\t0\nmove\t2\t0\t0\n")?; // from
     try_roomy(rt, b"automaton\t2\t1\t0\nmove\t0\t0\t2\nmove\t1\t0\t0\n")?; // to
     try_roomy(rt, b"automaton\t2\t1\t0\nmove\t0\t1\t0\n")?; // letter
@@ -50,7 +49,7 @@ fn moves(rt: &impl Print) -> io::Result<()> {
         rt,
         b"automaton\t2\t1\t0\nmove\t1\t0\t0\nmove\t0\t0\t0\nmove\t1\t1\t0\n",
     )?;
-    print(rt, b"7: order of moves\n")?;
+    println!(rt; "7: order of moves")?;
     try_roomy(
         rt,
         b"automaton\t2\t1\t0\nmove\t0\t0\t1\nmove\t0\t0\t1\nmove\t1\t0\t0\n",
@@ -69,11 +68,11 @@ fn moves(rt: &impl Print) -> io::Result<()> {
 
 // Refusals 8 and 16.
 fn mode_and_room(rt: &impl Print) -> io::Result<()> {
-    print(rt, b"8: mode\n")?;
+    println!(rt; "8: mode")?;
     try_roomy(rt, b"automaton\t2\t1\t0\nmode\t4\n")?;
     try_roomy(rt, b"automaton\t2\t1\t0\nmode\t256\n")?;
     try_text(rt, b"automaton\t2\t1\t0\nmode\t4\n", 1, 0)?;
-    print(rt, b"16: buffers\n")?;
+    println!(rt; "16: buffers")?;
     try_text(
         rt,
         b"automaton\t2\t1\t0\nmove\t0\t0\t1\nmove\t1\t0\t0\n",

@@ -1,5 +1,4 @@
 // Texts that are too long, or of wrong form or order: refusals 22 and 20, the place of which is the line.
-use super::printed::print;
 use super::tried::try_roomy;
 use std::io;
 
@@ -7,7 +6,7 @@ use std::io;
 fn too_long(rt: &impl Print) -> io::Result<()> {
     let text = [b'\n'; 32769];
     try_roomy(rt, &text[..])?;
-    try_roomy(rt, &text[0..32768])
+    try_roomy(rt, &text[..32768])
 }
 
 // Whole lines.
@@ -48,12 +47,12 @@ fn order(rt: &impl Print) -> io::Result<()> {
 }
 
 pub fn run(rt: &impl Print) -> io::Result<()> {
-    print(rt, b"22, and 20 at the limit\n")?;
+    println!(rt; "22, and 20 at the limit")?;
     too_long(rt)?;
-    print(rt, b"20: lines\n")?;
+    println!(rt; "20: lines")?;
     lines(rt)?;
-    print(rt, b"20: fields\n")?;
+    println!(rt; "20: fields")?;
     fields(rt)?;
-    print(rt, b"20: order\n")?;
+    println!(rt; "20: order")?;
     order(rt)
 }

@@ -2,9 +2,8 @@
 // that changed and must not have; for an accepted text also a line with the marks and the moves.
 ghost use Rattle.std.specs.Prelude.{◌≤◌, length};
 
-use super::printed::{print, print_number};
-use automaton::{Automaton, wide};
-use std::io;
+use automaton::Automaton;
+use std::{fmt, io};
 use text::Reading;
 
 // What the buffers hold before a call.
@@ -19,87 +18,49 @@ const MOVES: usize = 60;
 pub fn changed(bytes: &[u8], from: usize) -> usize
     ensures { result ≤ length bytes.now }
 {
-    let mut count = 0;
-    let mut i = from;
-    while i < bytes.len() {
-        if bytes[i] != UNWRITTEN {
-            count += 1;
+    bytes
+        .iter()
+        .skip(from)
+        .filter(|byte| **byte != UNWRITTEN)
+        .count()
+}
+
+// Bytes as numbers, each behind a tab.
+#[derive(Clone, Copy)]
+struct Row<'a>(&'a [u8]);
+
+impl fmt::Display for Row<'_> {
+    fn fmt<W: fmt::Write>(&self, f: &mut fmt::Formatter<W>) -> fmt::Result {
+        for byte in self.0 {
+            write!(f, "\t{byte}")?;
         }
-        i += 1;
+        Ok(())
     }
-    count
-}
-
-// Prints the bytes before a place.
-fn print_front(rt: &impl Print, bytes: &[u8], end: usize) -> io::Result<()> {
-    let mut i = 0;
-    while i < end && i < bytes.len() {
-        print_number(rt, wide(bytes[i]))?;
-        i += 1;
-    }
-    Ok(())
-}
-
-// Prints the number and the place of an answer.
-pub fn print_answer(rt: &impl Print, number: usize, place: usize) -> io::Result<()> {
-    print_number(rt, number)?;
-    print_number(rt, place)
-}
-
-// Prints how many marks and bytes of moves changed past those that may have.
-fn print_changed(
-    rt: &impl Print,
-    marks: &[u8; MARKS],
-    states: usize,
-    moves: &[u8; MOVES],
-    bytes: usize,
-) -> io::Result<()> {
-    print_number(rt, changed(&marks[..], states) + changed(&moves[..], bytes))?;
-    print(rt, b"\n")
 }
 
 // Prints an accepted text: a mark a state and three bytes a move are written, and nothing past them.
-fn held(
-    rt: &impl Print,
-    a: Automaton,
-    mode: usize,
-    count: usize,
-    marks: &[u8; MARKS],
-    moves: &[u8; MOVES],
-) -> io::Result<()> {
-    let states = a.states;
-    print_answer(rt, 0, 0)?;
-    print_number(rt, states)?;
-    print_number(rt, a.letters)?;
-    print_number(rt, a.start)?;
-    print_number(rt, mode)?;
-    print_number(rt, count)?;
-    if MOVES / 3 < count {
-        return print(rt, b"\tmore moves than the buffer holds\n");
+fn held(rt: &impl Print, read: Reading, marks: &[u8], moves: &[u8]) -> io::Result<()> {
+    let Reading {
+        automaton,
+        mode,
+        moves: count,
+    } = read;
+    let Automaton {
+        states,
+        letters,
+        start,
+    } = automaton;
+    print!(rt; "read\t0\t0\t{states}\t{letters}\t{start}\t{mode}\t{count}")?;
+    if marks.len() < states || moves.len() / 3 < count {
+        return println!(rt; "\tmore than the buffers hold");
     }
-    print_changed(rt, marks, states, moves, count * 3)?;
-    print(rt, b"marks")?;
-    print_front(rt, &marks[..], states)?;
-    print(rt, b"\tmoves")?;
-    print_front(rt, &moves[..], count * 3)?;
-    print(rt, b"\n")
-}
-
-// Prints what `read` answered, and what it left in the buffers.
-fn tell(
-    rt: &impl Print,
-    reading: Reading,
-    marks: &[u8; MARKS],
-    moves: &[u8; MOVES],
-) -> io::Result<()> {
-    print(rt, b"read")?;
-    match reading {
-        Reading::Refused(refusal) => {
-            print_answer(rt, refusal.number(), refusal.place())?;
-            print_changed(rt, marks, 0, moves, 0)
-        }
-        Reading::Held(a, mode, count) => held(rt, a, mode, count, marks, moves),
-    }
+    let bytes = count * 3;
+    println!(rt; "\t{}", changed(marks, states) + changed(moves, bytes))?;
+    println!(rt;
+        "marks{}\tmoves{}",
+        Row(&marks[..states]),
+        Row(&moves[..bytes])
+    )
 }
 
 // Reads a text into as many bytes for the marks and for the moves.
@@ -109,8 +70,17 @@ pub fn try_text(rt: &impl Print, text: &[u8], marks: usize, moves: usize) -> io:
 {
     let mut markbytes = [UNWRITTEN; MARKS];
     let mut movebytes = [UNWRITTEN; MOVES];
-    let reading = text::read(text, &mut markbytes[0..marks], &mut movebytes[0..moves]);
-    tell(rt, reading, &markbytes, &movebytes)
+    match text::read(text, &mut markbytes[..marks], &mut movebytes[..moves]) {
+        Ok(read) => held(rt, read, &markbytes, &movebytes),
+        Err(refusal) => {
+            let changed = changed(&markbytes, 0) + changed(&movebytes, 0);
+            println!(rt;
+                "read\t{}\t{}\t{changed}",
+                refusal.number(),
+                refusal.place()
+            )
+        }
+    }
 }
 
 // Reads a text into the whole buffers.

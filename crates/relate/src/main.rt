@@ -1,7 +1,6 @@
 // The relation program: reads a text from standard input, and prints its relation, or why it is refused.
 #![tactic(auto)]
 
-use report::Reported;
 use std::io;
 
 // One byte more than a text may have, so that a longer one is seen to be longer.
@@ -11,9 +10,6 @@ fn main(rt: HostRuntime) -> io::Result<()> {
     let mut text = [0u8; BYTES];
     let count = report::fill(&mut rt.reader(), &mut text[..])?;
     let mut out = [0u8; report::LONGEST];
-    let reported = report::report(&text[0..count], &mut out[..]);
-    match reported {
-        Reported::Bytes(bytes) => rt.write_all(&out[0..bytes]),
-        Reported::Refused(_) => Ok(()),
-    }
+    let bytes = report::report(&text[..count], &mut out[..]).unwrap();
+    rt.write_all(&out[..bytes])
 }

@@ -1,14 +1,8 @@
 -- When `relation` and `reply` are accepted, and that a refused `relation` leaves the bytes as they were.
-use mathlib.Core.Path.{◌≡◌, refl, sym, ap, ◌∙◌, subst}
-use mathlib.Core.Logic.Iff
-use mathlib.Core.Logic.{◌≢◌, ◌↔◌}
-use mathlib.Core.List.{List, [], ◌∷◌}
-use Prim.Native.Nat.{ℕ, ◌*◌, ◌-◌, ◌≤◌, ◌<◌}
+use Rattle.std.proofs.Common.{◌≡◌, refl, sym, ap, ◌∙◌, subst, ◌≢◌, ◌↔◌, List, [], ◌∷◌, ℕ, ◌*◌, ◌-◌, ◌≤◌, ◌<◌, arith, eqb, length, eqb-true, eq-eqb, ltb-false, le-ltb, leb-false}
 use native.Mathlib.Decide.{dec_lt}
-use native.Mathlib.Omega.{arith}
-use lib.Dec.{eqb}
-use lib.ListN.{length}
-use borrow.Author.Tests.{eqb-true, eq-eqb, not-false, ltb-false, le-ltb, leb-false, lt-leb}
+use borrow.Author.Tests.{not-false, lt-leb}
+use mathlib.Core.Logic.Iff
 use Rattle.games.specs.Game.{Game, at}
 use Rattle.games.specs.Lift.{Rest, AtRest}
 use Rattle.automaton.specs.declared.Mode.{Mode}

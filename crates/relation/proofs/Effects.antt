@@ -1,10 +1,6 @@
 -- What `relation` and `reply` do, by what is at fault.
-use mathlib.Core.Path.{◌≡◌}
-use mathlib.Core.Logic.{◌≢◌}
-use mathlib.Core.List.{List}
-use Prim.Native.Nat.{ℕ, ◌*◌, ◌≤◌, ◌<◌}
-use borrow.Author.Tests.{eq-eqb, ne_eqb, le-leb, lt-leb}
-use lib.ListN.{length}
+use Rattle.std.proofs.Common.{◌≡◌, ◌≢◌, List, ℕ, ◌*◌, ◌≤◌, ◌<◌, eq-eqb, ne_eqb, le-leb, length}
+use borrow.Author.Tests.{lt-leb}
 use Rattle.automaton.specs.declared.Refusal.{Refusal}
 use Rattle.automaton.specs.declared.Refusal.TheVariants.{PositionNumber, OutputLength}
 use Rattle.automaton.specs.Answer.{valued, refused, none, fault}

@@ -1,3 +1,4 @@
+pub mod Opened
 pub mod Tested
 pub mod Effects
 pub mod Bare

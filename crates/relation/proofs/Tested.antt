@@ -1,11 +1,5 @@
 -- What `table::rest` tells the calls that need a table at rest: which of the refusals 10 and 12 applies, if one does.
-use mathlib.Core.Path.{◌≡◌, refl, sym, ap, ◌∙◌}
-use mathlib.Core.Bool.{Bool, true, false, cond}
-use mathlib.Core.List.{List}
-use Prim.Native.Nat.{ℕ}
-use native.Mathlib.Omega.{arith}
-use lib.Dec.{ltb}
-use lib.ListN.{length}
+use Rattle.std.proofs.Common.{◌≡◌, refl, sym, ap, ◌∙◌, Bool, true, false, cond, List, ℕ, Option, Some, None, arith, ltb, length}
 use Rattle.automaton.specs.declared.Refusal.{Refusal}
 use Rattle.automaton.specs.declared.Refusal.TheVariants.{NotAtRest}
 use Rattle.automaton.specs.Answer.{Answer, valued, placed, value, refused, Fault, none, fault, fails, unless}
@@ -14,6 +8,7 @@ use Rattle.automaton.proofs.One.{refused-not, unless-refused}
 use Rattle.arena.specs.Job.{Job, game_of}
 use Rattle.arena.specs.Refusals.{open_fault}
 use Rattle.entries.specs.Found.{restless}
+use Rattle.table.specs.Answers.{found}
 use Rattle.table.specs.Calls.{entry_fault, rested, resting}
 use Rattle.relation.specs.Calls.{rest_fault}
 
@@ -57,3 +52,8 @@ module _ (j : Job) (t : List ℕ) (o : open_fault j (length t) ≡ none) where
 
   pub rest-one : valued 1 ≡ resting j t → (entry_fault (game_of j) t ≡ none) × (rest_fault (game_of j) t ≡ none)
   rest-one e = told-one (entry_fault (game_of j) t) (ltb lowest (game_of j).P) lowest (e ∙ rest-is)
+
+  -- whatever it found, no entry is above T
+  pub rest-tells : (lowest : Option ℕ) → found lowest ≡ resting j t → entry_fault (game_of j) t ≡ none
+  rest-tells (Some v) e = (rest-placed v e).0
+  rest-tells None e = (rest-one e).0

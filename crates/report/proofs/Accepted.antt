@@ -1,12 +1,6 @@
 -- When `report` accepts: where there is room for the longest report, whatever the text.
-use mathlib.Core.Path.{◌≡◌, refl}
+use Rattle.std.proofs.Common.{◌≡◌, refl, ◌≢◌, ◌↔◌, List, ℕ, ◌≤◌, ltb-false, le-ltb, ltb, length}
 use mathlib.Core.Logic.Iff
-use mathlib.Core.Logic.{◌≢◌, ◌↔◌}
-use mathlib.Core.List.{List}
-use Prim.Native.Nat.{ℕ, ◌≤◌}
-use borrow.Author.Tests.{ltb-false, le-ltb}
-use lib.Dec.{ltb}
-use lib.ListN.{length}
 use Rattle.automaton.specs.declared.Refusal.TheVariants.{OutputLength}
 use Rattle.automaton.specs.Answer.{valued, fails}
 use Rattle.automaton.specs.Effect.{Refuses}

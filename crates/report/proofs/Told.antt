@@ -1,14 +1,8 @@
 -- What a report comes to: the line of a refusal or the relation, whole, at the front of the buffer.
-use mathlib.Core.Path.{◌≡◌, refl, sym, ap, ◌∙◌}
-use mathlib.Core.List.{List}
-use Prim.Native.Nat.{ℕ, ◌≤◌, ◌<◌}
-use native.Mathlib.Omega.{arith}
-use borrow.Author.Tests.{lt-ltb, le-ltb}
-use lib.Dec.{ltb}
-use lib.ListN.{length}
+use Rattle.std.proofs.Common.{Ok, Result, ◌≡◌, refl, sym, ap, ◌∙◌, List, ℕ, ◌≤◌, ◌<◌, arith, lt-ltb, le-ltb, ltb, length}
 use Rattle.automaton.specs.declared.Refusal.{Refusal}
 use Rattle.automaton.specs.declared.Refusal.TheVariants.{OutputLength}
-use Rattle.automaton.specs.Answer.{Fault, none, fault, valued, value, refused}
+use Rattle.automaton.specs.Answer.{Fault, answered, none, fault, valued, value, refused}
 use Rattle.automaton.specs.Effect.{Effect}
 use Rattle.automaton.proofs.One.{refused-not}
 use Rattle.fields.specs.Bytes.{laid, stop}
@@ -22,6 +16,7 @@ use Rattle.text.proofs.Accepted.{text_line}
 use Rattle.text.proofs.Places.{text_place}
 use Rattle.report.specs.Calls.{longest, reporting}
 use Rattle.report.specs.Report.{job_read, report_of}
+use Rattle.report.proofs.One.{one_reported}
 use Rattle.report.proofs.Reading.{before-long, job_small}
 
 module _ (text : List ℕ) where
@@ -63,6 +58,10 @@ module _ (text : List ℕ) where
         let long : place ≡ length (report_of text) = p.0 ∙ stop-whole l out room ∙ ap length (sym e) in
         let bytes : now ≡ before (report_of text) out = p.1 ∙ laid-whole l out room ∙ ap (λ (x : List ℕ). before x out) (sym e) in
         (ap valued long ∙ sym (ap (λ (x : Effect (List ℕ)). x.answer) (printed-effect h)), bytes ∙ sym (ap (λ (x : Effect (List ℕ)). x.left) (printed-effect h)))
+
+    -- in a buffer with room the bytes of the report are counted
+    pub report_counted : longest ≤ length out → (r : Result ℕ Refusal) → answered valued r ≡ (reporting text out).answer → r ≡ Ok (length (report_of text))
+    report_counted h r e = one_reported r (Ok (length (report_of text))) (e ∙ ap (λ (x : Effect (List ℕ)). x.answer) (printed-effect h))
 
     -- the buffer keeps its length, and the bytes counted lie in it
     pub report-long : length (reporting text out).left ≡ length out

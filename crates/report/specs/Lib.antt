@@ -1,3 +1,2 @@
 pub mod Report
-pub mod Answers
 pub mod Calls

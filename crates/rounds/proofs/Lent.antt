@@ -8,8 +8,8 @@ use Rattle.words.proofs.Digits.{dig-zero}
 use Rattle.automaton.specs.declared.Mode.{Mode}
 use Rattle.automaton.specs.Board.{Board, Formed}
 use Rattle.automaton.specs.Limits.{most_states, most_letters}
-use Rattle.arena.specs.declared.Arena.{Arena}
-use Rattle.arena.specs.Arena.{board_in, Ready}
+use Rattle.arena.specs.declared.game.Game.{Game}
+use Rattle.arena.specs.Game.{board, Playable}
 use Rattle.halves.specs.Drawn.{Accepting, Into, Onto}
 use Rattle.halves.specs.Rising.{Blank}
 use Rattle.halves.proofs.Drawing.{zeros-empty}
@@ -23,10 +23,10 @@ pub blank-zeros : (B : Board) (m : Mode) (c : ℕ) → Blank B m (replicate c 0)
 blank-zeros B m c b q r hb hq hr = rw (zeros-empty c (b * B.n + q)) (dig-zero r)
 
 -- lists at the limits
-pub equipped_first : (g : Arena) (marks moves t : List ℕ) {acc : ℕ} {into onto : List ℕ} {old : ℕ} → Ready g marks moves t → Accepting (board_in g marks moves) acc
-    → Into (board_in g marks moves) into → Onto (board_in g marks moves) onto
-    → Equipped g marks moves t acc into onto (replicate (2 * most_states) 0) (replicate 2 0) (replicate (2 * most_states) old) (replicate (2 * (most_states * most_letters)) 0) (replicate 2 0)
-equipped_first g marks moves t {old = old} ready acc before after = record {
+pub equipped_first : (g : Game) (t : List ℕ) {acc : ℕ} {into onto : List ℕ} {old : ℕ} → Playable g t → Accepting (board g) acc
+    → Into (board g) into → Onto (board g) onto
+    → Equipped g t acc into onto (replicate (2 * most_states) 0) (replicate 2 0) (replicate (2 * most_states) old) (replicate (2 * (most_states * most_letters)) 0) (replicate 2 0)
+equipped_first g t {old = old} ready acc before after = record {
   ready = ready;
   accepting = acc;
   before = before;

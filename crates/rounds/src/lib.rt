@@ -5,11 +5,11 @@
 ghost use Rattle.std.specs.Prelude.{◌≡◌};
 ghost use Rattle.games.specs.Lift.{cleared};
 ghost use Rattle.games.specs.Settle.{settle};
-ghost use Rattle.arena.specs.Arena.{board_in, game_in, Ready};
+ghost use Rattle.arena.specs.Game.{board, Playable, played};
 ghost use Rattle.halves.specs.Rising.{Blank};
 ghost use Rattle.sweep.specs.Poised.{Equipped};
 
-use arena::Arena;
+use arena::Game;
 use automaton::Automaton;
 
 // The rows of Spoiler's positions at the limits, with b 0 or 1, and the columns of Duplicator's.
@@ -19,9 +19,7 @@ const COLUMNS: usize = 2 * halves::WORDS;
 
 // Sweeps a cleared table until a sweep raises nothing: the number of raises.
 fn sweeps(
-    g: Arena,
-    marks: &[u8],
-    moves: &[u8],
+    game: &Game,
     acc: u64,
     into: &[u64],
     onto: &[u64],
@@ -32,59 +30,51 @@ fn sweeps(
     grown: &mut [u64],
     columns: &mut [u64],
 ) -> usize
-    requires equipped { Equipped g marks.now moves.now table.old acc into.now onto.now risen.old rows.old olds.old grown.old columns.old }
-    requires table_value { table.old ≡ cleared (game_in g marks.now moves.now) }
-    requires blank { Blank (board_in g marks.now moves.now) g.mode risen.old }
-    ensures value { result ≡ (settle (game_in g marks.now moves.now)).raised }
-    ensures table_after { table.new ≡ (settle (game_in g marks.now moves.now)).table }
+    requires equipped { Equipped game.now table.old acc into.now onto.now risen.old rows.old olds.old grown.old columns.old }
+    requires table_value { table.old ≡ cleared (played game.now) }
+    requires blank { Blank (board game.now) game.now.arena.mode risen.old }
+    ensures value { result ≡ (settle (played game.now)).raised }
+    ensures table_after { table.new ≡ (settle (played game.now)).table }
 {
-    let mut raised = sweep::first(
-        g, marks, moves, acc, into, onto, table, risen, rows, olds, grown, columns,
+    let mut raised = 0;
+    let mut last = sweep::first(
+        game, acc, into, onto, table, risen, rows, olds, grown, columns,
     );
-    if raised == 0 {
-        return 0;
-    }
-    let mut last = raised;
-    loop {
-        let more = sweep::again(
-            g, marks, moves, acc, into, onto, table, risen, rows, olds, grown, columns, last,
+    while last != 0 {
+        raised += last;
+        last = sweep::again(
+            game, acc, into, onto, table, risen, rows, olds, grown, columns, last,
         );
-        if more == 0 {
-            return raised;
-        }
-        raised += more;
-        last = more;
     }
+    raised
 }
 
 // Settles a cleared table: the number of raises.
-pub fn settle(g: Arena, marks: &[u8], moves: &[u8], table: &mut [u32]) -> usize
-    requires ready { Ready g marks.now moves.now table.old }
-    requires table_value { table.old ≡ cleared (game_in g marks.now moves.now) }
-    ensures value { result ≡ (settle (game_in g marks.now moves.now)).raised }
-    ensures table_after { table.new ≡ (settle (game_in g marks.now moves.now)).table }
+pub fn settle(game: &Game, table: &mut [u32]) -> usize
+    requires ready { Playable game.now table.old }
+    requires table_value { table.old ≡ cleared (played game.now) }
+    ensures value { result ≡ (settle (played game.now)).raised }
+    ensures table_after { table.new ≡ (settle (played game.now)).table }
 {
     let mut into = [0u64; halves::WORDS];
     let mut onto = [0u64; halves::WORDS];
-    halves::draw(g, marks, moves, &mut into[..], &mut onto[..]);
-    let acc = halves::accepting(g, marks, moves);
+    halves::draw(game, &mut into, &mut onto);
+    let acc = halves::accepting(game);
     let mut risen = [0u64; ROWS];
     let mut rows = [0u64; 2];
     let mut olds = [sweep::UNSEEN; ROWS];
     let mut grown = [0u64; COLUMNS];
     let mut columns = [0u64; 2];
     sweeps(
-        g,
-        marks,
-        moves,
+        game,
         acc,
-        &into[..],
-        &onto[..],
+        &into,
+        &onto,
         table,
-        &mut risen[..],
-        &mut rows[..],
-        &mut olds[..],
-        &mut grown[..],
-        &mut columns[..],
+        &mut risen,
+        &mut rows,
+        &mut olds,
+        &mut grown,
+        &mut columns,
     )
 }

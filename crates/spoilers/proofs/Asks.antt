@@ -1,18 +1,12 @@
 -- How a column asks, by the kinds of its positions.
-use mathlib.Core.Path.{◌≡◌, refl, sym, ap, ◌∙◌}
-use mathlib.Core.Logic.{◌⊎◌, inl, inr}
-use mathlib.Core.Bool.{Bool, true, false, cond}
-use Prim.Native.Nat.{ℕ, suc, ◌+◌, ◌≤◌, ◌<◌, min, max}
-use native.Mathlib.Nat.{le_refl}
-use native.Mathlib.Omega.{arith}
-use borrow.Author.Tests.{eq-eqb, ne_eqb}
+use Rattle.std.proofs.Common.{◌≡◌, refl, sym, ap, ◌∙◌, ◌⊎◌, inl, inr, Bool, true, false, cond, ℕ, suc, ◌+◌, ◌≤◌, ◌<◌, min, max, le_refl, arith, eq-eqb, ne_eqb}
 use Rattle.games.specs.Game.{Kind, high, counting, resetting, idle, lost, full}
 use Rattle.games.specs.Half.{rule}
 use Rattle.games.proofs.Asked.{Full, full-cases}
 use Rattle.words.specs.Word.{dig, In}
 use Rattle.words.proofs.Digits.{dig-zero}
 use Rattle.automaton.specs.declared.Mode.{Mode}
-use Rattle.automaton.specs.declared.Mode.TheVariants.{Direct}
+use Rattle.automaton.specs.declared.Mode.TheVariants.{Ordinary, Direct}
 use Rattle.automaton.specs.Board.{Board, accepts}
 use Rattle.simulation.specs.Rules.{bit, turn, ceiling}
 use Rattle.simulation.proofs.Listed.{bit-one}
@@ -110,12 +104,16 @@ module _ (B : Board) (m : Mode) (b r : ℕ) where
       go q h j (inl (e, k)) = rw (e, given_in bump h (min (suc h) (ceiling B m)) q k) (fits_counting (ceiling B m) h j)
       go q h j (inr (e, k)) = rw (e, given_out bump h (min (suc h) (ceiling B m)) q k) (fits_high (ceiling B m) h j)
 
--- ---- the kinds of direct mode
+-- ---- the kinds of ordinary and direct mode
 
-pub direct_kinds : (m : Mode) → m ≡ Direct → (b : ℕ) (x y : Bool) → (turn m b x y ≡ high) ⊎ (turn m b x y ≡ lost)
+direct_kinds : (m : Mode) → m ≡ Direct → (b : ℕ) (x y : Bool) → (turn m b x y ≡ high) ⊎ (turn m b x y ≡ lost)
 direct_kinds m e b x y = rw e (go x y)
   where
     go : (x y : Bool) → (turn Direct b x y ≡ high) ⊎ (turn Direct b x y ≡ lost)
     go true true = inl refl
     go true false = inr refl
     go false y = inl refl
+
+pub plain_kinds : (m : Mode) → (m ≡ Ordinary) ⊎ (m ≡ Direct) → (b : ℕ) (x y : Bool) → (turn m b x y ≡ high) ⊎ (turn m b x y ≡ lost)
+plain_kinds m (inl e) b x y = inl (rw e refl)
+plain_kinds m (inr e) b x y = direct_kinds m e b x y

@@ -1,20 +1,17 @@
 -- Products of numbers within the limits: what positions are counted by is small.
-use mathlib.Core.List.{List}
-use Prim.Native.Nat.{ℕ, ◌+◌, ◌*◌, ◌≤◌, ◌<◌}
-use native.Mathlib.Nat.{mul-le-mul}
-use native.Mathlib.Omega.{arith}
+use Rattle.std.proofs.Common.{◌≡◌, ℕ, ◌+◌, ◌*◌, ◌≤◌, ◌<◌, mul-le-mul, arith, length}
 use lib.Arith.{digits_lt}
-use lib.ListN.{length}
 use Rattle.automaton.specs.declared.Mode.{Mode}
 use Rattle.automaton.specs.Board.{Board, accepts, Formed}
 use Rattle.automaton.specs.Limits.{most_letters, most_states}
-use Rattle.simulation.specs.Position.{layers, positions}
+use Rattle.simulation.specs.Position.{layers, pairs, positions}
 use Rattle.simulation.specs.Rules.{pended}
 use Rattle.simulation.proofs.Inward.{pended_lt}
-use Rattle.simulation.proofs.Limits.{layers-most, positions-most}
+use Rattle.simulation.proofs.Limits.{layers-most, pairs-most, positions-most}
 use Rattle.simulation.proofs.Position.{positions_are}
 use Rattle.arena.specs.declared.Arena.{Arena}
-use Rattle.arena.specs.Arena.{board_in}
+use Rattle.arena.specs.declared.game.Game.{Game}
+use Rattle.arena.specs.Game.{board}
 use Rattle.halves.specs.Rising.{Rising}
 use Rattle.halves.specs.Half.{challenged}
 use Rattle.halves.proofs.Places.{pair_row, pair-below, duplicator-within, row_below}
@@ -39,6 +36,21 @@ module _ (B : Board) (m : Mode) (F : Formed B) where
 
   pub challenged_small : (b r x a : ℕ) → b < layers m → r < B.n → x < B.n → a < B.k → challenged B m b r x a < 139264
   challenged_small b r x a hb hr hx ha = omega (arith, challenged-within b r x a hb hr hx ha, positions-most B F m)
+
+-- where the entries begin that moves into a column lead to: every number on the way is small
+pub record Blocked (g : Arena) (b r : ℕ) : Type 0 where
+  pub layer : b * (g.states * g.states) ≤ 4096
+  pub sum : b * (g.states * g.states) + r ≤ 4160
+  pub block : (b * (g.states * g.states) + r) * g.letters ≤ 66560
+  pub pairs : g.pairs ≤ 8192
+
+pub blocked : (g : Game) → Formed (board g) → g.arena.pairs ≡ pairs (board g) g.arena.mode → (b r : ℕ) → b < layers g.arena.mode → r < g.arena.states → Blocked g.arena b r
+blocked g F paired b r hb hr = record {
+  layer = layer-most (board g) g.arena.mode F b hb;
+  sum = omega (arith, layer-most (board g) g.arena.mode F b hb, F.few);
+  block = block-most (board g) g.arena.mode F b r hb hr;
+  pairs = omega (arith, paired, pairs-most (board g) g.arena.mode F.few);
+}
 
 -- the word of Duplicator's column (b,·,r,a) is among all, and its number is small
 pub record Worded (m : Mode) (n k b r a : ℕ) : Type 0 where
@@ -70,12 +82,12 @@ pub record Placed (g : Arena) (s : Rising) (b q r : ℕ) : Type 0 where
   pub olds : b * g.states + q < length s.olds
   pub rows : b < length s.rows
 
-pub placed : (g : Arena) (marks moves : List ℕ) (s : Rising) → Raising g marks moves s → (b q r : ℕ) → b < layers g.mode → q < g.states → r < g.states
-    → Placed g s b q r
-placed g marks moves s w b q r hb hq hr = record {
+pub placed : (g : Game) (s : Rising) → Raising g s → (b q r : ℕ) → b < layers g.arena.mode → q < g.arena.states → r < g.arena.states
+    → Placed g.arena s b q r
+placed g s w b q r hb hq hr = record {
   entry = within;
-  small = omega (arith, within, w.ready.entries, positions-most B F g.mode);
-  row = bit-row-most B g.mode F b hb;
+  small = omega (arith, within, w.ready.entries, positions-most B F g.arena.mode);
+  row = bit-row-most B g.arena.mode F b hb;
   states = F.few;
   risen = omega (arith, row, w.roomy.risen);
   olds = omega (arith, row, w.roomy.olds);
@@ -83,13 +95,13 @@ placed g marks moves s w b q r hb hq hr = record {
 }
   where
     B : Board
-    B = board_in g marks moves
+    B = board g
 
     F : Formed B
     F = w.ready.formed
 
-    row : b * g.states + q < layers g.mode * g.states
-    row = row_below B g.mode F b q hb hq
+    row : b * g.arena.states + q < layers g.arena.mode * g.arena.states
+    row = row_below B g.arena.mode F b q hb hq
 
-    within : (b * g.states + q) * g.states + r < length s.table
-    within = rw (← (pair_row B b q r)) (omega (arith, pair-below B g.mode F b q r hb hq hr, positions_are B g.mode, w.ready.entries))
+    within : (b * g.arena.states + q) * g.arena.states + r < length s.table
+    within = rw (← (pair_row B b q r)) (omega (arith, pair-below B g.arena.mode F b q r hb hq hr, positions_are B g.arena.mode, w.ready.entries))

@@ -1,9 +1,6 @@
 -- A half that pushes or pulls: how it begins, and that every position has what it asks for where each of its steps is heeded or cannot raise it.
-use mathlib.Core.Logic.{◌⊎◌, inl, inr}
-use mathlib.Core.List.{List, Memᴰ}
-use Prim.Native.Nat.{ℕ, ◌≤◌, ◌<◌}
-use native.Mathlib.Nat.{le_trans}
-use native.Mathlib.Omega.{arith}
+use Rattle.std.proofs.Common.{◌⊎◌, inl, inr, List, ℕ, ◌≤◌, ◌<◌, le_trans, arith}
+use mathlib.Core.List.{Memᴰ}
 use Rattle.games.specs.Game.{asked, at}
 use Rattle.games.specs.Lift.{Capped}
 use Rattle.games.proofs.Rule.{rule-over}
@@ -12,8 +9,8 @@ use Rattle.automaton.specs.Board.{Board, accepts, Formed}
 use Rattle.simulation.specs.Position.{layers, pair}
 use Rattle.simulation.specs.Rules.{pended, turn, ceiling, game}
 use Rattle.simulation.specs.Moves.{Moves}
-use Rattle.arena.specs.declared.Arena.{Arena}
-use Rattle.arena.specs.Arena.{board_in, Ready}
+use Rattle.arena.specs.declared.game.Game.{Game}
+use Rattle.arena.specs.Game.{board, Playable}
 use Rattle.halves.specs.Half.{ruled, challenged, AllCalm}
 use Rattle.halves.specs.Rising.{Rising, Roomy, Blank, Marked, Pushed, rising}
 use Rattle.halves.proofs.Steps.{turn-not-low, spoiler-kind, spoiler_stepped}
@@ -22,11 +19,11 @@ use Rattle.spoilers.specs.Front.{Layered}
 use Rattle.spoilers.specs.Floor.{AllFloored}
 use Rattle.spoilers.proofs.Whole.{raising-start}
 
-pub working_start : (g : Arena) (marks moves t ri ro ol : List ℕ) → Ready g marks moves t → Roomy (board_in g marks moves) g.mode (rising t ri ro ol)
-    → Capped (game (board_in g marks moves) g.mode) t → ((b : ℕ) → b < layers g.mode → AllFloored (board_in g marks moves) g.mode t b) → Blank (board_in g marks moves) g.mode ri
-    → Working g marks moves (rising t ri ro ol)
-working_start g marks moves t ri ro ol ready roomy capped floor blank = record {
-  raising = raising-start g marks moves t ri ro ol ready roomy blank;
+pub working_start : (g : Game) (t ri ro ol : List ℕ) → Playable g t → Roomy (board g) g.arena.mode (rising t ri ro ol)
+    → Capped (game (board g) g.arena.mode) t → ((b : ℕ) → b < layers g.arena.mode → AllFloored (board g) g.arena.mode t b) → Blank (board g) g.arena.mode ri
+    → Working g (rising t ri ro ol)
+working_start g t ri ro ol ready roomy capped floor blank = record {
+  raising = raising-start g t ri ro ol ready roomy blank;
   capped = λ v h. capped v;
   floor = λ b q r x y z. floor b x r z q y;
 }

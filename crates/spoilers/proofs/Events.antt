@@ -1,13 +1,6 @@
 -- One of Spoiler's entries raised to at most what it asks for: for the first time in a half it counts 1 and is noted, and again it counts 0.
-use mathlib.Core.Path.{◌≡◌, refl, sym, ap, ◌∙◌}
-use mathlib.Core.Logic.{◌≢◌, ◌⊎◌, inl, inr}
-use mathlib.Core.List.{List}
-use Prim.Native.Nat.{ℕ, ◌+◌, ◌*◌, ◌≤◌, ◌<◌}
-use native.Mathlib.Nat.{le_refl, le_trans}
-use native.Mathlib.Omega.{arith}
+use Rattle.std.proofs.Common.{Bool, ◌≡◌, refl, sym, ap, ◌∙◌, ◌≢◌, ◌⊎◌, inl, inr, List, ℕ, ◌+◌, ◌*◌, ◌≤◌, ◌<◌, le_refl, le_trans, arith, length, set, length-set, get_or-set_same, get_or-set_other}
 use native.Mathlib.Decide.{ℕ_discrete}
-use lib.ListN.{length, set, length-set}
-use lib.Seq.{get_or-set_same, get_or-set_other}
 use Rattle.games.specs.Game.{asked, at}
 use Rattle.games.specs.Half.{rose}
 use Rattle.games.proofs.Rose.{rose-put, rose-again}
@@ -16,6 +9,7 @@ use Rattle.automaton.specs.declared.Mode.{Mode}
 use Rattle.automaton.specs.Board.{Board, Formed}
 use Rattle.simulation.specs.Position.{layers, pairs, pair}
 use Rattle.simulation.specs.Rules.{game}
+use Rattle.std.specs.Int.{from_bool}
 use Rattle.halves.specs.Rising.{Rising, Noted, Spoiling, Pushed, rising}
 use Rattle.halves.proofs.Places.{pair_row, pair_one, pair-below}
 use Rattle.spoilers.specs.Note.{First, Again, Noting}
@@ -146,12 +140,12 @@ module _ (B : Board) (m : Mode) (F : Formed B) (b q r e : ℕ) (hb : b < layers 
 
 -- A raise as the code writes it, at an index that is the position's number.
 pub raise_event : (B : Board) (m : Mode) → Formed B → (b q r e : ℕ) → b < layers m → q < B.n → r < B.n
-    → (t ri ro ol ri' ro' ol' : List ℕ) (i c : ℕ) → i ≡ pair B b q r → i < length t → at t i < e → e ≤ asked (game B m) (at t) (pair B b q r)
-    → Noting ri ro ol ri' ro' ol' (b * B.n + q) b q r (at t i) c
-    → Pushed B m (rising t ri ro ol) (rising (set t i e) ri' ro' ol') c × (e ≤ at (set t i e) (pair B b q r))
-raise_event B m F b q r e hb hq hr t ri ro ol ri' ro' ol' i c place within up due note =
+    → (t ri ro ol ri' ro' ol' : List ℕ) (i : ℕ) (first : Bool) → i ≡ pair B b q r → i < length t → at t i < e → e ≤ asked (game B m) (at t) (pair B b q r)
+    → Noting ri ro ol ri' ro' ol' (b * B.n + q) b q r (at t i) first
+    → Pushed B m (rising t ri ro ol) (rising (set t i e) ri' ro' ol') (from_bool first) × (e ≤ at (set t i e) (pair B b q r))
+raise_event B m F b q r e hb hq hr t ri ro ol ri' ro' ol' i first place within up due note =
     rw place (go (rw place at note), raised-holds B m F b q r e hb hq hr t (rw place at within) (rw place at up) due)
   where
-    go : Noting ri ro ol ri' ro' ol' (b * B.n + q) b q r (at t (pair B b q r)) c → Pushed B m (rising t ri ro ol) (rising (set t (pair B b q r) e) ri' ro' ol') c
+    go : Noting ri ro ol ri' ro' ol' (b * B.n + q) b q r (at t (pair B b q r)) first → Pushed B m (rising t ri ro ol) (rising (set t (pair B b q r) e) ri' ro' ol') (from_bool first)
     go (inl (one, f)) = rw one (raised-first B m F b q r e hb hq hr t (rw place at within) (rw place at up) due ri ro ol ri' ro' ol' f)
     go (inr (none, a)) = rw none (raised-again B m F b q r e hb hq hr t (rw place at within) (rw place at up) due ri ro ol ri' ro' ol' a)

@@ -1,11 +1,5 @@
 -- What Spoiler's positions ask for with High 0: by the mode and by which states accept, and that over a table of zeros it is all that they ask for.
-use mathlib.Core.Path.{◌≡◌, refl, sym}
-use mathlib.Core.Logic.{◌⊎◌, inl, inr}
-use mathlib.Core.Bool.{Bool, true, false}
-use mathlib.Core.List.{List}
-use Prim.Native.Nat.{ℕ, zero, suc, ◌≤◌, ◌<◌}
-use native.Mathlib.Nat.{le_refl}
-use native.Mathlib.Omega.{arith}
+use Rattle.std.proofs.Common.{◌≡◌, refl, sym, ◌⊎◌, inl, inr, Bool, true, false, List, ℕ, zero, suc, ◌≤◌, ◌<◌, le_refl, arith}
 use Rattle.games.specs.Game.{asked, at, high, counting, resetting, lost}
 use Rattle.games.specs.Half.{rule}
 use Rattle.games.proofs.Asked.{full_miss}

@@ -1,6 +1,5 @@
 -- What a push may leave out, and who has had the greatest entry so far.
-use mathlib.Core.Logic.{◌⊎◌, inl, inr}
-use Prim.Native.Nat.{ℕ, ◌≤◌}
+use Rattle.std.proofs.Common.{◌⊎◌, inl, inr, ℕ, ◌≤◌}
 use Rattle.words.specs.Word.{In, Minus, Joined}
 use Rattle.words.proofs.Sets.{minus-sub, minus-cases, joined-cases}
 use Rattle.spoilers.specs.Front.{Fresh, Cover}

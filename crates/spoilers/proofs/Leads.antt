@@ -1,21 +1,14 @@
 -- Where the moves into a column come from: the entries they lead to, and the words that mark them.
-use mathlib.Core.Path.{◌≡◌, refl, sym, ap, ◌∙◌}
-use mathlib.Core.Logic.{◌⊎◌, inl, inr, ⊎_elim}
-use mathlib.Core.Bool.{Bool, true, false, cond}
-use mathlib.Core.List.{List}
-use Prim.Native.Nat.{ℕ, ◌+◌, ◌*◌, ◌<◌}
-use native.Mathlib.Nat.{add-mul, mul_assoc}
-use native.Mathlib.Omega.{arith}
-use lib.Dec.{eqb}
-use borrow.Author.Tests.{eq-eqb, ne_eqb}
+use Rattle.std.proofs.Common.{◌≡◌, refl, sym, ap, ◌∙◌, ◌⊎◌, inl, inr, ⊎_elim, Bool, true, false, cond, List, ℕ, ◌+◌, ◌*◌, ◌<◌, add-mul, mul_assoc, arith, eqb, eq-eqb, ne_eqb}
 use Rattle.games.specs.Game.{at}
 use Rattle.words.specs.Word.{dig, In, Met, Joined, Below}
 use Rattle.words.proofs.Sets.{in_or-out, met_in, met_right, joined_in_left, joined_in_right, joined-cases}
 use Rattle.automaton.specs.declared.Mode.{Mode}
 use Rattle.automaton.specs.declared.Mode.TheVariants.{Ordinary, Direct, Delayed, Fair}
 use Rattle.automaton.specs.Board.{Board, accepts}
-use Rattle.simulation.specs.Position.{pairs}
 use Rattle.simulation.specs.Rules.{pended}
+use Rattle.arena.specs.declared.game.Game.{Game}
+use Rattle.arena.specs.Game.{board}
 use Rattle.halves.specs.Drawn.{Accepting}
 use Rattle.halves.specs.Rising.{column}
 use Rattle.halves.specs.Half.{challenged}
@@ -36,7 +29,19 @@ pended-plain Fair b = refl
 block_plus : (n k s x r : ℕ) → (s + r) * k + x * (n * k) ≡ (s + x * n + r) * k
 block_plus n k s x r = omega (arith, add-mul s r k, add-mul (s + x * n) r k, add-mul s (x * n) k, mul_assoc x n k)
 
-module _ (B : Board) (m : Mode) (acc : ℕ) (c : Column) (s : Shaped B m acc c) (sure : Accepting B acc) where
+module _ (g : Game) (c : Column) (s : Shaped g c) where
+  abbrev B : Board
+  B = board g
+
+  abbrev m : Mode
+  m = g.arena.mode
+
+  abbrev acc : ℕ
+  acc = c.accepting
+
+  abbrev sure : Accepting B acc
+  sure = s.known.accepting
+
   -- the bit after a move to x
   bit_in : (x : ℕ) → x < B.n → In x acc → c.owing ≡ pended m (accepts B x) c.bit
   bit_in x h i = s.owing ∙ ap (λ (t : Bool). pended m t c.bit) (sym (accepting_in B acc sure x h i))
@@ -47,9 +52,9 @@ module _ (B : Board) (m : Mode) (acc : ℕ) (c : Column) (s : Shaped B m acc c) 
   pub leads : (x a : ℕ) → x < B.n → cond (eqb (dig acc x) 1) c.marked c.plain + x * (B.n * B.k) + a ≡ challenged B m c.bit c.blue x a
   leads x a h = go (in_or-out acc x)
     where
-      from : (b : ℕ) → b ≡ pended m (accepts B x) c.bit → (base : ℕ) → base ≡ pairs B m + (b * (B.n * B.n) + c.blue) * B.k
+      from : (b : ℕ) → b ≡ pended m (accepts B x) c.bit → (base : ℕ) → base ≡ g.arena.pairs + (b * (B.n * B.n) + c.blue) * B.k
           → base + x * (B.n * B.k) + a ≡ challenged B m c.bit c.blue x a
-      from b e base d = rw (← e) (omega (arith, d, block_plus B.n B.k (b * (B.n * B.n)) x c.blue))
+      from b e base d = rw (← e) (omega (arith, d, s.known.paired, block_plus B.n B.k (b * (B.n * B.n)) x c.blue))
 
       go : In x acc ⊎ (dig acc x ≡ 0) → cond (eqb (dig acc x) 1) c.marked c.plain + x * (B.n * B.k) + a ≡ challenged B m c.bit c.blue x a
       go (inl i) = rw (eq-eqb (dig acc x) 1 i) (from c.owing (bit_in x h i) c.marked s.marked)

@@ -1,12 +1,7 @@
 -- What the test for a member says of it, and the members of a set of the least numbers.
-use mathlib.Core.Path.{◌≡◌, sym, ◌∙◌}
-use mathlib.Core.Logic.{◌⊎◌, inl, inr}
-use mathlib.Core.Bool.{Bool, true, false}
-use Prim.Native.Nat.{ℕ, ◌<◌}
-use native.Mathlib.Omega.{arith}
+use Rattle.std.proofs.Common.{◌≡◌, sym, ◌∙◌, ◌⊎◌, inl, inr, Bool, true, false, ℕ, ◌<◌, arith, eqb, eqb-true}
 use native.Mathlib.Decide.{dec_lt}
-use lib.Dec.{eqb}
-use borrow.Author.Tests.{eqb-true, eqb-false}
+use borrow.Author.Tests.{eqb-false}
 use Rattle.words.specs.Word.{dig, In, Below}
 use Rattle.words.proofs.Sets.{in_or-out}
 

@@ -1,11 +1,7 @@
 -- The parts of Spoiler's half one after the other: what each keeps, and that they compose.
-use mathlib.Core.Path.{◌≡◌, refl, subst, ◌∙◌}
-use mathlib.Core.List.{List, Memᴰ}
-use Prim.Native.Nat.{ℕ, ◌+◌, ◌≤◌, ◌<◌}
-use native.Mathlib.Nat.{le_refl, le_trans}
-use native.Mathlib.Omega.{arith}
+use Rattle.std.proofs.Common.{◌≡◌, refl, subst, ◌∙◌, List, ℕ, ◌+◌, ◌≤◌, ◌<◌, le_refl, le_trans, arith, length}
+use mathlib.Core.List.{Memᴰ}
 use native.Mathlib.Decide.{dec_lt}
-use lib.ListN.{length}
 use Rattle.games.specs.Game.{asked, at}
 use Rattle.games.proofs.Asked.{asked_local}
 use Rattle.games.proofs.Rose.{rose-most}
@@ -14,8 +10,8 @@ use Rattle.automaton.specs.Board.{Board, Formed}
 use Rattle.simulation.specs.Position.{pairs}
 use Rattle.simulation.specs.Rules.{game}
 use Rattle.simulation.proofs.Limits.{positions-most}
-use Rattle.arena.specs.declared.Arena.{Arena}
-use Rattle.arena.specs.Arena.{board_in}
+use Rattle.arena.specs.declared.game.Game.{Game}
+use Rattle.arena.specs.Game.{board}
 use Rattle.arena.proofs.Open.{ready-again}
 use Rattle.halves.specs.Rising.{Rising, Spoiling, Pushed, Underway}
 use Rattle.halves.proofs.Apart.{spoilers_apart}
@@ -64,10 +60,10 @@ sized_none s = record { risen = refl; rows = refl; olds = refl }
 pub sized_then : {s u w : Rising} → Sized s u → Sized u w → Sized s w
 sized_then p q = record { risen = q.risen ∙ p.risen; rows = q.rows ∙ p.rows; olds = q.olds ∙ p.olds }
 
-module _ {g : Arena} {marks moves : List ℕ} {s u : Rising} {c : ℕ} where
-  pub raising-kept : Raising g marks moves s → Pushed (board_in g marks moves) g.mode s u c → Sized s u → Raising g marks moves u
+module _ {g : Game} {s u : Rising} {c : ℕ} where
+  pub raising-kept : Raising g s → Pushed (board g) g.arena.mode s u c → Sized s u → Raising g u
   raising-kept w p z = record {
-    ready = ready-again g marks moves s.table u.table w.ready p.entries;
+    ready = ready-again g.arena g.marks.now g.moves.now s.table u.table w.ready p.entries;
     roomy = record {
       risen = omega (arith, w.roomy.risen, z.risen);
       rows = omega (arith, w.roomy.rows, z.rows);
@@ -76,7 +72,7 @@ module _ {g : Arena} {marks moves : List ℕ} {s u : Rising} {c : ℕ} where
     underway = let (t, (d, x)) = w.underway in (t, (d + c, p.goes t d x));
   }
 
-  pub working_kept : Working g marks moves s → Pushed (board_in g marks moves) g.mode s u c → Sized s u → Working g marks moves u
+  pub working_kept : Working g s → Pushed (board g) g.arena.mode s u c → Sized s u → Working g u
   working_kept w p z = record {
     raising = raising-kept w.raising p z;
     capped = λ v h. omega (arith, w.capped v h, p.others v h);
@@ -84,7 +80,7 @@ module _ {g : Arena} {marks moves : List ℕ} {s u : Rising} {c : ℕ} where
   }
 
   -- no count wraps: P is at most 139,264
-  pub raising-most : Raising g marks moves s → Pushed (board_in g marks moves) g.mode s u c → c ≤ 139264
+  pub raising-most : Raising g s → Pushed (board g) g.arena.mode s u c → c ≤ 139264
   raising-most w p =
-      let B = board_in g marks moves in
-      le_trans (pushed_most B g.mode p w.underway) (rw w.ready.entries (positions-most B w.ready.formed g.mode))
+      let B = board g in
+      le_trans (pushed_most B g.arena.mode p w.underway) (rw w.ready.entries (positions-most B w.ready.formed g.arena.mode))

@@ -1,10 +1,5 @@
 -- High over Red's moves, member by member and letter by letter, and a position raised to what it asks for: after it every move is heeded.
-use mathlib.Core.Path.{◌≡◌, refl, subst, ap, ◌∙◌}
-use mathlib.Core.Logic.{◌⊎◌, inl, inr}
-use mathlib.Core.List.{List}
-use Prim.Native.Nat.{ℕ, suc, ◌+◌, ◌*◌, ◌≤◌, ◌<◌, min, max}
-use native.Mathlib.Nat.{le_refl, le_trans}
-use native.Mathlib.Omega.{arith}
+use Rattle.std.proofs.Common.{◌≡◌, refl, subst, ◌⊎◌, inl, inr, List, ℕ, ◌+◌, ◌*◌, ◌≤◌, ◌<◌, max, le_refl, le_trans, arith}
 use native.Mathlib.Decide.{dec_le, dec_lt}
 use Rattle.games.specs.Game.{asked, at}
 use Rattle.games.proofs.Rule.{rule_mono, rule-floor}
@@ -16,13 +11,15 @@ use Rattle.simulation.specs.Moves.{Moves}
 use Rattle.simulation.specs.Position.{layers, pairs, pair}
 use Rattle.simulation.specs.Rules.{turn, ceiling, game}
 use Rattle.simulation.proofs.Moves.{move-within}
+use Rattle.arena.specs.declared.game.Game.{Game}
+use Rattle.arena.specs.Game.{board}
 use Rattle.halves.specs.Drawn.{Onto}
 use Rattle.halves.specs.Half.{ruled, challenged}
 use Rattle.halves.specs.Rising.{Rising, Pushed}
 use Rattle.halves.proofs.Steps.{turn-not-low, spoiler-kind}
 use Rattle.spoilers.specs.declared.column.Column.{Column}
-use Rattle.spoilers.specs.Work.{given, gives}
-use Rattle.spoilers.specs.Shape.{Asking, ColumnOf}
+use Rattle.spoilers.specs.Work.{gives, Working}
+use Rattle.spoilers.specs.Shape.{Asking, ColumnOf, Shaped}
 use Rattle.spoilers.specs.Floor.{AllFloored}
 use Rattle.spoilers.specs.Pull.{HighBy, HighTo, Heeds, ColumnHeeds, AllHeed}
 use Rattle.spoilers.proofs.Pushes.{source_asks, heeded_kept}
@@ -82,8 +79,8 @@ module _ (B : Board) (m : Mode) (t : List ℕ) (b q r : ℕ) where
 
   -- ---- letter by letter
 
-  pub high-none : (a : ℕ) → a ≡ 0 → HighTo B m t b q r a 0
-  high-none a none = record { each = λ i x l. absurd (omega arith); some = inl refl }
+  pub high-none : HighTo B m t b q r 0 0
+  high-none = record { each = λ i x l. absurd (omega arith); some = inl refl }
 
   pub high-more : (a h e : ℕ) → HighTo B m t b q r a h → HighBy B m t b q r a h e → HighTo B m t b q r (a + 1) e
   high-more a h e s n = record { each = λ i x l move. each i x l move (dec_lt i a); some = some n.some s.some }
@@ -101,13 +98,37 @@ module _ (B : Board) (m : Mode) (t : List ℕ) (b q r : ℕ) where
 
 -- ---- one position
 
-module _ (B : Board) (m : Mode) (F : Formed B) (b q r : ℕ) (hb : b < layers m) (hq : q < B.n) (hr : r < B.n) {from bump : ℕ} (ask : Asking B m b r from bump)
-    (t : List ℕ) (capped : (v : ℕ) → pairs B m ≤ v → at t v ≤ ceiling B m) (floor : ruled B m b q r 0 ≤ at t (pair B b q r)) (h : ℕ) (high : HighTo B m t b q r B.k h) where
+module _ {g : Game} {s : Rising} {c : Column} (works : Working g s) (shape : Shaped g c) (q : ℕ) (hq : q < g.arena.states) (h : ℕ)
+    (high : HighTo (board g) g.arena.mode s.table c.bit q c.blue g.arena.letters h) where
+  abbrev B : Board
+  B = board g
+
+  abbrev m : Mode
+  m = g.arena.mode
+
+  abbrev b : ℕ
+  b = c.bit
+
+  abbrev r : ℕ
+  r = c.blue
+
+  abbrev t : List ℕ
+  t = s.table
+
+  abbrev F : Formed B
+  F = shape.known.formed
+
+  abbrev ask : Asking B m b r c.rule.from c.rule.bump
+  ask = shape.asking
+
+  floor : ruled B m b q r 0 ≤ at t (pair B b q r)
+  floor = works.floor b q r shape.bit hq shape.blue
+
   under : (a x : ℕ) → Moves B q a x → at t (challenged B m b r x a) ≤ h
   under a x move = high.each a x (move-within B F q a x move).1 move
 
   entry-most : (a x : ℕ) → at t (challenged B m b r x a) ≤ ceiling B m
-  entry-most a x = capped (challenged B m b r x a) (omega arith)
+  entry-most a x = works.capped (challenged B m b r x a) (omega arith)
 
   most : h ≤ ceiling B m
   most = go high.some
@@ -122,18 +143,18 @@ module _ (B : Board) (m : Mode) (F : Formed B) (b q r : ℕ) (hb : b < layers m)
     where
       go : (h ≡ 0) ⊎ ((a : ℕ) × (x : ℕ) × Moves B q a x × (at t (challenged B m b r x a) ≡ h)) → ruled B m b q r h ≤ asked (game B m) (at t) (pair B b q r)
       go (inl e) =
-          rw (e, spoiler-kind B m F b q r hb hq hr)
+          rw (e, spoiler-kind B m F b q r shape.bit hq shape.blue)
           (rule-floor (turn m b (accepts B q) (accepts B r)) (turn-not-low m b (accepts B q) (accepts B r)) (ceiling B m) (at t) _)
-      go (inr (a, x, move, e)) = subst (λ (n : ℕ). ruled B m b q r n ≤ asked (game B m) (at t) (pair B b q r)) e (source_asks B m F b q r a x hb hr move t)
+      go (inr (a, x, move, e)) = subst (λ (n : ℕ). ruled B m b q r n ≤ asked (game B m) (at t) (pair B b q r)) e (source_asks B m F b q r a x shape.bit shape.blue move t)
 
   -- High too small to raise anything is heeded
-  pub pull-below : h < from → Heeds B m b r t q
+  pub pull-below : h < c.rule.from → Heeds B m b r t q
   pull-below l a x move = le_trans (ask.idle q (at t (challenged B m b r x a)) hq (entry-most a x) (omega (arith, under a x move))) floor
 
   -- from there on, what the position is given is due, and enough
-  module _ (e w : ℕ) (bumped : w ≡ min (suc h) (ceiling B m)) (gift : e ≡ given bump h w q) (l : from ≤ h) where
-    is : e ≡ gives bump (ceiling B m) h q
-    is = gift ∙ ap (λ (y : ℕ). given bump h y q) bumped
+  module _ {e : ℕ} (gift : e ≡ gives c.rule.bump g.arena.top h q) (l : c.rule.from ≤ h) where
+    is : e ≡ gives c.rule.bump (ceiling B m) h q
+    is = rw (← shape.known.topped) gift
 
     pub pull-due : e ≤ asked (game B m) (at t) (pair B b q r)
     pull-due = rw is (le_trans (ask.due q h hq most l) asks)
@@ -146,9 +167,9 @@ module _ (B : Board) (m : Mode) (F : Formed B) (b q r : ℕ) (hb : b < layers m)
 
 -- ---- a column
 
-pub heeds_column : (B : Board) (m : Mode) {acc b r : ℕ} {c : Column} (t : List ℕ) → ColumnOf B m acc b r c
-    → ((q : ℕ) → q < B.n → Heeds B m c.bit c.blue t q) → ColumnHeeds B m b t r
-heeds_column B m t (shape, e, d) all = rw (← e, ← d) all
+pub heeds_column : {g : Game} {b r : ℕ} {c : Column} (t : List ℕ) → ColumnOf g b r c
+    → ((q : ℕ) → q < g.arena.states → Heeds (board g) g.arena.mode c.bit c.blue t q) → ColumnHeeds (board g) g.arena.mode b t r
+heeds_column t (shape, e, d) all = rw (← e, ← d) all
 
 -- ---- what heeds its moves stays so
 

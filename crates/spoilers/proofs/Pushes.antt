@@ -1,10 +1,5 @@
 -- One entry pushed into a column: who is hit asks for it, and after it every move to its state is heeded.
-use mathlib.Core.Path.{◌≡◌}
-use mathlib.Core.Logic.{◌⊎◌, inl, inr}
-use mathlib.Core.List.{List}
-use Prim.Native.Nat.{ℕ, suc, ◌≤◌, ◌<◌, min, max}
-use native.Mathlib.Nat.{le_trans}
-use native.Mathlib.Omega.{arith}
+use Rattle.std.proofs.Common.{refl, sym, subst, ◌∙◌, ◌≡◌, ◌⊎◌, inl, inr, List, ℕ, suc, ◌≤◌, ◌<◌, min, max, le_trans, arith}
 use Rattle.games.specs.Game.{asked, at}
 use Rattle.games.proofs.Rule.{rule-under}
 use Rattle.words.specs.Word.{dig, In}
@@ -12,16 +7,20 @@ use Rattle.words.proofs.Sets.{in_or-out}
 use Rattle.automaton.specs.declared.Mode.{Mode}
 use Rattle.automaton.specs.Board.{Board, accepts, Formed}
 use Rattle.simulation.specs.Moves.{Moves}
-use Rattle.simulation.specs.Position.{layers, pairs, pair}
+use Rattle.simulation.specs.Position.{layers, pair}
 use Rattle.simulation.specs.Rules.{turn, ceiling, game}
 use Rattle.simulation.proofs.Moves.{move-within}
+use Rattle.arena.specs.declared.game.Game.{Game}
+use Rattle.arena.specs.Game.{board}
 use Rattle.halves.specs.Half.{ruled, challenged}
 use Rattle.halves.specs.Rising.{Rising, Pushed}
 use Rattle.halves.proofs.Steps.{turn-not-low, spoiler-kind, spoiler-step}
 use Rattle.spoilers.specs.declared.column.Column.{Column}
-use Rattle.spoilers.specs.Work.{given, gives, Hits, Holds, Heeded}
-use Rattle.spoilers.specs.Shape.{Asking, ColumnOf}
-use Rattle.spoilers.specs.Front.{Fresh, Cover, Heard, Lettered, Columned, Layered}
+use Rattle.spoilers.specs.declared.front.Front.{Front}
+use Rattle.spoilers.specs.declared.gift.Gift.{Gift}
+use Rattle.spoilers.specs.Work.{dealt, gives, Hits, Holds, Heeded, Working}
+use Rattle.spoilers.specs.Shape.{Asking, ColumnOf, Shaped}
+use Rattle.spoilers.specs.Front.{Fresh, Cover, Guarded, Heard, Lettered, Columned, Layered}
 use Rattle.spoilers.proofs.Asks.{given_in, given_out}
 
 pub gives_mono : (bump T v w q : ℕ) → v ≤ w → gives bump T v q ≤ gives bump T w q
@@ -78,36 +77,54 @@ module _ (B : Board) (m : Mode) (F : Formed B) (b r a x : ℕ) (hb : b < layers 
         go (inl (l, k)) = let z : top ≡ cur = omega arith in rw z (le_trans (guard q k) (grown _))
         go (inr (l, k)) = let z : top ≡ v = omega arith in rw z (h q k)
 
-  -- ---- the same, of v and w as the code has them
+-- ---- in a half under way
 
-  module _ (e w : ℕ) (read : e ≡ v) (bumped : w ≡ min (suc e) (ceiling B m)) where
-    pub push-hits : from ≤ e → (hit : ℕ) → ((q : ℕ) → In q hit → Moves B q a x) → Hits B m t b r hit (given bump e w)
-    push-hits l hit all = rw (bumped, read) (hits-asked (rw read at l) hit all)
+module _ {g : Game} {s : Rising} {c : Column} (works : Working g s) (shape : Shaped g c) (a x : ℕ) where
+  abbrev lead : ℕ
+  lead = challenged (board g) g.arena.mode c.bit c.blue x a
 
-    pub push-done : from ≤ e → (u : List ℕ) → ((i : ℕ) → at t i ≤ at u i) → at u (challenged B m b r x a) ≡ v
-        → (before done cur hit d top : ℕ) → ((q : ℕ) → Moves B q a x → In q before) → Holds B t b r done (gift cur)
-        → Fresh before done e cur hit → Holds B u b r hit (given bump e w) → Cover before done e cur d → top ≡ max e cur
-        → Holds B u b r d (gift top) × Heard B m b r a u x
-    push-done l u grown same before done cur hit d top all guard fresh holds cover greatest =
-        let have = holds-all u grown before done cur guard hit (rw read at fresh) (rw read at (rw bumped at holds)) in (
-          guard_more u grown before done cur guard d (rw read at cover) have top (rw read at greatest),
-          heard_from u grown before done cur guard (rw read at l) same all have,
+  most : at s.table lead ≤ ceiling (board g) g.arena.mode
+  most = works.capped lead (omega arith)
+
+  floors : (q : ℕ) → q < g.arena.states → ruled (board g) g.arena.mode c.bit q c.blue 0 ≤ at s.table (pair (board g) c.bit q c.blue)
+  floors q h = works.floor c.bit q c.blue shape.bit h shape.blue
+
+  -- an entry too small for the column is heeded
+  pub small-heard : at s.table lead < c.rule.from → Heard (board g) g.arena.mode c.bit c.blue a s.table x
+  small-heard = heard_below (board g) g.arena.mode shape.known.formed c.bit c.blue a x shape.bit shape.blue shape.asking s.table most floors
+
+  -- another is given to those before x that have had less
+  module _ {v : ℕ} (f : Gift) (read : v ≡ at s.table lead) (gift : dealt f ≡ gives c.rule.bump g.arena.top v) (enough : c.rule.from ≤ v) where
+    is : dealt f ≡ gives c.rule.bump (ceiling (board g) g.arena.mode) (at s.table lead)
+    is = gift ∙ rw (shape.known.topped, read) refl
+
+    pub gift-hits : (hit : ℕ) → ((q : ℕ) → In q hit → Moves (board g) q a x) → Hits (board g) g.arena.mode s.table c.bit c.blue hit (dealt f)
+    gift-hits hit all =
+        subst (Hits (board g) g.arena.mode s.table c.bit c.blue hit) (sym is) (hits-asked (board g) g.arena.mode shape.known.formed c.bit c.blue a x shape.bit shape.blue shape.asking s.table most floors (rw read at enough) hit all)
+
+    -- after which every move to x by a is heeded, and those that have had the greatest entry still have what it gives
+    pub gift-done : {u : Rising} {n before hit : ℕ} {front front' : Front} → Pushed (board g) g.arena.mode s u n → ((q : ℕ) → Moves (board g) q a x → In q before)
+        → Guarded (board g) g.arena.mode s.table c front → Fresh before front.had v front.greatest hit → Holds (board g) u.table c.bit c.blue hit (dealt f)
+        → front'.greatest ≡ max v front.greatest → Cover before front.had v front.greatest front'.had
+        → Guarded (board g) g.arena.mode u.table c front' × Heard (board g) g.arena.mode c.bit c.blue a u.table x
+    gift-done {u} {n} {before} {hit} {front} {front'} pushed all guard fresh holds greatest cover =
+        let F = shape.known.formed in
+        let l = rw read at enough in
+        let have = holds-all (board g) g.arena.mode F c.bit c.blue a x shape.bit shape.blue shape.asking s.table most floors u.table pushed.grown before front.had front.greatest guard hit (rw read at fresh) (subst (Holds (board g) u.table c.bit c.blue hit) is holds) in (
+          guard_more (board g) g.arena.mode F c.bit c.blue a x shape.bit shape.blue shape.asking s.table most floors u.table pushed.grown before front.had front.greatest guard front'.had (rw read at cover) have front'.greatest (rw read at greatest),
+          heard_from (board g) g.arena.mode F c.bit c.blue a x shape.bit shape.blue shape.asking s.table most floors u.table pushed.grown before front.had front.greatest guard l (pushed.others lead (omega arith)) all have,
         )
 
 -- ---- a column
 
-module _ (B : Board) (m : Mode) {acc b r : ℕ} {c : Column} (t : List ℕ) where
-  pub column-done : (grown : List ℕ) → ColumnOf B m acc b r c → ((a : ℕ) → a < B.k → Lettered B m grown c.bit c.blue t a) → Columned B m grown b t r
-  column-done grown (shape, e, d) all = rw (← e, ← d) all
+module _ {g : Game} {b r : ℕ} {c : Column} where
+  pub column-done : (t grown : List ℕ) → ColumnOf g b r c → ((a : ℕ) → a < g.arena.letters → Lettered (board g) g.arena.mode grown c.bit c.blue t a) → Columned (board g) g.arena.mode grown b t r
+  column-done t grown (shape, e, d) all = rw (← e, ← d) all
 
   -- a column that no entry raises
-  pub column_still : Formed B → ((v : ℕ) → pairs B m ≤ v → at t v ≤ ceiling B m)
-      → ((b q r : ℕ) → b < layers m → q < B.n → r < B.n → ruled B m b q r 0 ≤ at t (pair B b q r))
-      → ColumnOf B m acc b r c → ceiling B m < c.from → (a x : ℕ) → Heard B m b r a t x
-  column_still F cap floor (shape, e, d) high a x =
-      rw (← e, ← d)
-      (heard_below B m F c.bit c.blue a x shape.bit shape.blue shape.asking t (cap _ (omega arith)) (λ q hq. floor c.bit q c.blue shape.bit hq shape.blue)
-      (omega (arith, high, cap (challenged B m c.bit c.blue x a) (omega arith))))
+  pub column_still : {s : Rising} → Working g s → ColumnOf g b r c → g.arena.top < c.rule.from → (a x : ℕ) → Heard (board g) g.arena.mode b r a s.table x
+  column_still {s} works (shape, e, d) high a x =
+      rw (← e, ← d) (small-heard works shape a x (omega (arith, high, shape.known.topped, works.capped (challenged (board g) g.arena.mode c.bit c.blue x a) (omega arith))))
 
 -- ---- what is heeded stays so
 

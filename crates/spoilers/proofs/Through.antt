@@ -1,9 +1,5 @@
 -- Loops whose turns are parts of the half: through the members of a set, and through numbers. What is left, and what holds where it is done.
-use mathlib.Core.Path.{◌≡◌}
-use mathlib.Core.Logic.{◌⊎◌, inl, inr}
-use mathlib.Core.List.{List}
-use Prim.Native.Nat.{ℕ, ◌+◌, ◌<◌}
-use native.Mathlib.Omega.{arith}
+use Rattle.std.proofs.Common.{◌≡◌, ◌⊎◌, inl, inr, List, ℕ, ◌+◌, ◌<◌, arith}
 use native.Mathlib.Decide.{dec_lt}
 use Rattle.words.specs.Word.{In, Pop}
 use Rattle.words.proofs.Sets.{empty, pop_cases, pop_sub}
@@ -19,18 +15,14 @@ pub record Through (B : Board) (m : Mode) (all : ℕ) (Done : (t : List ℕ) →
   pub sub : (x : ℕ) → In x left → In x all
   pub over : (x : ℕ) → In x all → In x left ⊎ Done s.table x
 
--- the lowest member, as the calls on sets find it
-pub popped : {left x y rest : ℕ} → x ≡ y → Pop left y rest → Pop left x rest
-popped e p = rw e p
+module _ {B : Board} {m : Mode} {Done : (t : List ℕ) → ℕ → Type 0} where
+  pub through_start : (all : ℕ) (s : Rising) → Through B m all Done s s 0 all
+  through_start all s = record { pushed = pushed_none B m s; sized = sized_none s; sub = λ x i. i; over = λ x i. inl i }
 
-module _ (B : Board) (m : Mode) (all : ℕ) (Done : (t : List ℕ) → ℕ → Type 0) where
-  pub through_start : (s : Rising) → Through B m all Done s s 0 all
-  through_start s = record { pushed = pushed_none B m s; sized = sized_none s; sub = λ x i. i; over = λ x i. inl i }
-
-  module _ (s₀ s u : Rising) (c d left x rest : ℕ) where
-    pub through_more : Through B m all Done s₀ s c left → Pop left x rest → Pushed B m s u d → Sized s u → Done u.table x
+  module _ {all : ℕ} {s₀ s : Rising} {c left : ℕ} (t : Through B m all Done s₀ s c left) where
+    pub through_more : {u : Rising} {d x rest : ℕ} → Pop left x rest → Pushed B m s u d → Sized s u → Done u.table x
         → ((y : ℕ) → Done s.table y → Done u.table y) → Through B m all Done s₀ u (c + d) rest
-    through_more t p step size done stays = record {
+    through_more {u} {d} {x} {rest} p step size done stays = record {
       pushed = pushed_then B m t.pushed step;
       sized = sized_then t.sized size;
       sub = λ y i. t.sub y (pop_sub p y i);
@@ -45,12 +37,12 @@ module _ (B : Board) (m : Mode) (all : ℕ) (Done : (t : List ℕ) → ℕ → T
         over y (inl i) = away y (pop_cases p y i)
         over y (inr e) = inr (stays y e)
 
-  pub through_end : (s₀ s : Rising) (c left : ℕ) → Through B m all Done s₀ s c left → left ≡ 0 → (x : ℕ) → In x all → Done s.table x
-  through_end s₀ s c left t e x i = go (t.over x i)
-    where
-      go : In x left ⊎ Done s.table x → Done s.table x
-      go (inl k) = absurd (empty x (rw e at k))
-      go (inr k) = k
+    pub through_end : left ≡ 0 → (x : ℕ) → In x all → Done s.table x
+    through_end e x i = go (t.over x i)
+      where
+        go : In x left ⊎ Done s.table x → Done s.table x
+        go (inl k) = absurd (empty x (rw e at k))
+        go (inr k) = k
 
 -- ---- a loop through the numbers from 0 on
 
@@ -60,13 +52,13 @@ pub record Upto (B : Board) (m : Mode) (Done : (t : List ℕ) → ℕ → Type 0
   pub sized : Sized s₀ s
   pub each : (j : ℕ) → j < i → Done s.table j
 
-module _ (B : Board) (m : Mode) (Done : (t : List ℕ) → ℕ → Type 0) where
-  pub upto_start : (s : Rising) (i : ℕ) → i ≡ 0 → Upto B m Done s s 0 i
-  upto_start s i none = record { pushed = pushed_none B m s; sized = sized_none s; each = λ j h. absurd (omega arith) }
+module _ {B : Board} {m : Mode} {Done : (t : List ℕ) → ℕ → Type 0} where
+  pub upto_start : (s : Rising) → Upto B m Done s s 0 0
+  upto_start s = record { pushed = pushed_none B m s; sized = sized_none s; each = λ j h. absurd (omega arith) }
 
-  pub upto_more : (s₀ s u : Rising) (c d i : ℕ) → Upto B m Done s₀ s c i → Pushed B m s u d → Sized s u → Done u.table i
+  pub upto_more : {s₀ s u : Rising} {c d i : ℕ} → Upto B m Done s₀ s c i → Pushed B m s u d → Sized s u → Done u.table i
       → ((j : ℕ) → Done s.table j → Done u.table j) → Upto B m Done s₀ u (c + d) (i + 1)
-  upto_more s₀ s u c d i t step size done stays = record {
+  upto_more {s₀} {s} {u} {c} {d} {i} t step size done stays = record {
     pushed = pushed_then B m t.pushed step;
     sized = sized_then t.sized size;
     each = λ j h. each j h (dec_lt j i);

@@ -1,10 +1,5 @@
 -- The whole of Spoiler's half: how it begins, and that parts after which every position has what it asks for make it.
-use mathlib.Core.Path.{◌≡◌, refl, subst}
-use mathlib.Core.Logic.{◌⊎◌, inl, inr}
-use mathlib.Core.List.{List}
-use Prim.Native.Nat.{ℕ, ◌≤◌, ◌<◌, max}
-use native.Mathlib.Omega.{arith}
-use lib.ListN.{length}
+use Rattle.std.proofs.Common.{◌≡◌, refl, subst, ◌⊎◌, inl, inr, List, ℕ, ◌≤◌, ◌<◌, max, arith, length}
 use Rattle.games.specs.Game.{asked, at}
 use Rattle.games.specs.Half.{Halved}
 use Rattle.games.proofs.Half.{half_from}
@@ -13,11 +8,13 @@ use Rattle.automaton.specs.declared.Mode.{Mode}
 use Rattle.automaton.specs.Board.{Board, Formed}
 use Rattle.simulation.specs.Position.{layers, pairs, pair}
 use Rattle.simulation.specs.Rules.{game}
-use Rattle.arena.specs.declared.Arena.{Arena}
-use Rattle.arena.specs.Arena.{board_in, Ready}
+use Rattle.arena.specs.declared.game.Game.{Game}
+use Rattle.arena.specs.Game.{board, Playable}
+use Rattle.halves.specs.Drawn.{Accepting}
 use Rattle.halves.specs.Rising.{Rising, Roomy, Blank, Spoiling, Pushed, rising}
 use Rattle.halves.proofs.Places.{each-spoiler}
 use Rattle.spoilers.specs.Work.{Raising}
+use Rattle.spoilers.specs.Shape.{Known}
 
 -- nothing has risen, and nothing is noted
 spoiling_start : (B : Board) (m : Mode) (t ri ro ol : List ℕ) → Blank B m ri → Spoiling B m t (rising t ri ro ol) 0
@@ -29,13 +26,17 @@ spoiling_start B m t ri ro ol blank = record {
   count = rose-none t (length t);
 }
 
-pub raising-start : (g : Arena) (marks moves t ri ro ol : List ℕ) → Ready g marks moves t → Roomy (board_in g marks moves) g.mode (rising t ri ro ol)
-    → Blank (board_in g marks moves) g.mode ri → Raising g marks moves (rising t ri ro ol)
-raising-start g marks moves t ri ro ol ready roomy blank = record {
+pub raising-start : (g : Game) (t ri ro ol : List ℕ) → Playable g t → Roomy (board g) g.arena.mode (rising t ri ro ol)
+    → Blank (board g) g.arena.mode ri → Raising g (rising t ri ro ol)
+raising-start g t ri ro ol ready roomy blank = record {
   ready = ready;
   roomy = roomy;
-  underway = (t, (0, spoiling_start (board_in g marks moves) g.mode t ri ro ol blank));
+  underway = (t, (0, spoiling_start (board g) g.arena.mode t ri ro ol blank));
 }
+
+-- what is known of an arena in which the accepting states are drawn
+pub known-start : {g : Game} {t : List ℕ} {acc : ℕ} → Playable g t → Accepting (board g) acc → Known g acc
+known-start ready accepting = record { formed = ready.formed; paired = ready.paired; topped = ready.topped; accepting = accepting }
 
 module _ (B : Board) (m : Mode) (t ri ro ol : List ℕ) (u : Rising) {c : ℕ} (blank : Blank B m ri) (pushed : Pushed B m (rising t ri ro ol) u c) where
   pub all_spoiling : Spoiling B m t u c

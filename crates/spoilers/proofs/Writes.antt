@@ -1,27 +1,18 @@
 -- One member put into a word, and one old entry lowered.
-use mathlib.Core.Path.{◌≡◌}
-use mathlib.Core.List.{List}
-use Prim.Native.Nat.{ℕ, ◌≤◌, ◌<◌}
-use native.Mathlib.Nat.{le_refl}
-use native.Mathlib.Omega.{arith}
+use Rattle.std.proofs.Common.{◌≡◌, List, ℕ, ◌≤◌, ◌<◌, arith, length, set, get_or-set_same, get_or-set_other}
 use native.Mathlib.Decide.{ℕ_discrete}
-use lib.ListN.{length, set}
-use lib.Seq.{get_or-set_same, get_or-set_other}
 use Rattle.games.specs.Game.{at}
 use Rattle.words.specs.Word.{dig, In}
 use Rattle.words.proofs.Sets.{with_old}
 use Rattle.halves.specs.Drawn.{Inserted}
 use Rattle.spoilers.specs.Note.{Lowered}
 
-pub lowered_made : (l : List ℕ) (i e : ℕ) → i < length l → e < at l i → Lowered l (set l i e) i e
-lowered_made l i e h less = record { here = omega (arith, get_or-set_same l i e 0 h); less = λ j. go j (ℕ_discrete j i) }
+pub lowered : (l : List ℕ) (i e w : ℕ) → i < length l → w ≤ e → w ≤ at l i → Lowered l (set l i w) i e
+lowered l i e w h below least = record { here = omega (arith, get_or-set_same l i w 0 h); less = λ j. go j (ℕ_discrete j i) }
   where
-    go : (j : ℕ) → Dec (j ≡ i) → at (set l i e) j ≤ at l j
-    go j (yes q) = rw q (omega (arith, get_or-set_same l i e 0 h))
-    go j (no n) = omega (arith, get_or-set_other l i j e 0 n)
-
-pub lowered_none : (l : List ℕ) (i e : ℕ) → at l i ≤ e → Lowered l l i e
-lowered_none l i e h = record { here = h; less = λ j. le_refl (at l j) }
+    go : (j : ℕ) → Dec (j ≡ i) → at (set l i w) j ≤ at l j
+    go j (yes q) = rw q (omega (arith, get_or-set_same l i w 0 h))
+    go j (no n) = omega (arith, get_or-set_other l i j w 0 n)
 
 module _ {l u : List ℕ} {i x : ℕ} where
   -- members stay

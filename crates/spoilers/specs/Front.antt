@@ -9,6 +9,7 @@ use Rattle.simulation.specs.Moves.{Moves}
 use Rattle.simulation.specs.Rules.{pended, ceiling}
 use Rattle.halves.specs.Rising.{column, Marked}
 use Rattle.spoilers.specs.declared.column.Column.{Column}
+use Rattle.spoilers.specs.declared.front.Front.{Front}
 use Rattle.spoilers.specs.Work.{gives, Holds, Heeded}
 
 -- r holds those of `before` that v may raise: the others have had cur, which is no less
@@ -20,9 +21,9 @@ pub record Fresh (before done v cur r : ℕ) : Type 0 where
 pub record Cover (before done v cur r : ℕ) : Type 0 where
   pub each : (q : ℕ) → In q r → ((v ≤ cur) × In q done) ⊎ ((cur ≤ v) × In q before)
 
--- each state that is done has what cur gives it
-abbrev pub Guarded : Board → Mode → (t : List ℕ) → Column → (cur done : ℕ) → Type 0
-Guarded B m t c cur done = Holds B t c.bit c.blue done (gives c.bump (ceiling B m) cur)
+-- each state that has had the greatest entry has what that entry gives it
+abbrev pub Guarded : Board → Mode → (t : List ℕ) → Column → Front → Type 0
+Guarded B m t c f = Holds B t c.bit c.blue f.had (gives c.rule.bump (ceiling B m) f.greatest)
 
 -- every move by a to x is heeded by (b,·,r)
 abbrev pub Heard : Board → Mode → (b r a : ℕ) → (t : List ℕ) → (x : ℕ) → Type 0

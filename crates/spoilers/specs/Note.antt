@@ -1,6 +1,6 @@
 -- What is noted of an entry that rises.
 -- Functions below the calls promise it to each other; no public promise cites it.
-use Rattle.std.specs.Prelude.{◌≡◌, ◌⊎◌, List, ℕ, ◌≤◌}
+use Rattle.std.specs.Prelude.{◌≡◌, ◌⊎◌, Bool, true, false, List, ℕ, ◌≤◌}
 use Rattle.games.specs.Game.{at}
 use Rattle.words.specs.Word.{dig, In}
 use Rattle.halves.specs.Drawn.{Inserted}
@@ -24,6 +24,6 @@ pub record Again (ri ro ol ri' ro' ol' : List ℕ) (i r : ℕ) : Type 0 where
   pub rows : ro' ≡ ro
   pub olds : ol' ≡ ol
 
--- a note and what it counts for: 1 if it is the first of this entry, else 0
-abbrev pub Noting : (ri ro ol ri' ro' ol' : List ℕ) (i b q r e c : ℕ) → Type 0
-Noting ri ro ol ri' ro' ol' i b q r e c = ((c ≡ 1) × First ri ro ol ri' ro' ol' i b q r e) ⊎ ((c ≡ 0) × Again ri ro ol ri' ro' ol' i r)
+-- a note, and whether it is the first of this entry
+abbrev pub Noting : (ri ro ol ri' ro' ol' : List ℕ) (i b q r e : ℕ) (first : Bool) → Type 0
+Noting ri ro ol ri' ro' ol' i b q r e first = ((first ≡ true) × First ri ro ol ri' ro' ol' i b q r e) ⊎ ((first ≡ false) × Again ri ro ol ri' ro' ol' i r)

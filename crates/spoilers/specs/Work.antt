@@ -7,27 +7,32 @@ use Rattle.automaton.specs.declared.Mode.{Mode}
 use Rattle.automaton.specs.Board.{Board}
 use Rattle.simulation.specs.Position.{layers, pairs, pair}
 use Rattle.simulation.specs.Rules.{ceiling, game}
-use Rattle.arena.specs.declared.Arena.{Arena}
-use Rattle.arena.specs.Arena.{board_in, Ready}
+use Rattle.arena.specs.declared.game.Game.{Game}
+use Rattle.arena.specs.Game.{board, Playable}
 use Rattle.halves.specs.Rising.{Rising, Roomy, Underway}
 use Rattle.halves.specs.Half.{ruled, challenged}
+use Rattle.spoilers.specs.declared.gift.Gift.{Gift}
 
 -- a half is under way in an arena
-pub record Raising (g : Arena) (marks moves : List ℕ) (s : Rising) : Type 0 where
-  pub ready : Ready g marks moves s.table
-  pub roomy : Roomy (board_in g marks moves) g.mode s
-  pub underway : Underway (board_in g marks moves) g.mode s
+pub record Raising (g : Game) (s : Rising) : Type 0 where
+  pub ready : Playable g s.table
+  pub roomy : Roomy (board g) g.arena.mode s
+  pub underway : Underway (board g) g.arena.mode s
 
 -- a half that pushes is under way: Duplicator's entries are at most T, and Spoiler's no less than what they ask for with High 0
-pub record Working (g : Arena) (marks moves : List ℕ) (s : Rising) : Type 0 where
-  pub raising : Raising g marks moves s
-  pub capped : (v : ℕ) → pairs (board_in g marks moves) g.mode ≤ v → at s.table v ≤ ceiling (board_in g marks moves) g.mode
-  pub floor : (b q r : ℕ) → b < layers g.mode → q < g.states → r < g.states
-      → ruled (board_in g marks moves) g.mode b q r 0 ≤ at s.table (pair (board_in g marks moves) b q r)
+pub record Working (g : Game) (s : Rising) : Type 0 where
+  pub raising : Raising g s
+  pub capped : (v : ℕ) → pairs (board g) g.arena.mode ≤ v → at s.table v ≤ ceiling (board g) g.arena.mode
+  pub floor : (b q r : ℕ) → b < layers g.arena.mode → q < g.arena.states → r < g.arena.states
+      → ruled (board g) g.arena.mode b q r 0 ≤ at s.table (pair (board g) b q r)
 
 -- what state q gets: w if it is in the set, and v if not
 abbrev pub given : (bump v w q : ℕ) → ℕ
 given bump v w q = cond (eqb (dig bump q) 1) w v
+
+-- what a gift gives state q
+abbrev pub dealt : Gift → (q : ℕ) → ℕ
+dealt f = given f.bump f.plain f.more
 
 -- what an entry v gives state q if T is top: one more to those of the set, up to T
 abbrev pub gives : (bump top v q : ℕ) → ℕ

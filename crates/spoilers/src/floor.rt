@@ -1,14 +1,15 @@
 // Spoiler's half of the first sweep, by columns: over a table of zeros High is 0, and the kind of a position tells what it asks for.
 ghost use Rattle.std.specs.Prelude.{◌<◌};
 ghost use Rattle.simulation.specs.Position.{layers};
-ghost use Rattle.arena.specs.Arena.{board_in};
+ghost use Rattle.arena.specs.Game.{board};
 ghost use Rattle.halves.specs.Rising.{Pushed, rising};
 ghost use Rattle.spoilers.specs.Floor.{AllFloored, FloorOf};
 ghost use Rattle.spoilers.specs.Shape.{Known};
 ghost use Rattle.spoilers.specs.Work.{Raising};
 
+use super::gift::Gift;
 use super::raise::put;
-use arena::Arena;
+use arena::Game;
 use automaton::Mode;
 
 // What the positions (b, q, r) of a column ask for with High 0: `value` where q is hit, and 0 elsewhere.
@@ -19,41 +20,32 @@ struct Floor {
 }
 
 // What column (b, ·, r) asks for with High 0.
-fn floor_of(g: Arena, marks: &[u8], moves: &[u8], acc: u64, b: usize, r: usize) -> Floor
-    requires known { Known g marks.now moves.now acc }
-    requires b_bound { (b < layers g.mode) × (r < g.states) }
-    ensures { FloorOf (board_in g marks.now moves.now) g.mode b r result.hit result.value }
+fn floor_of(game: &Game, acc: u64, b: usize, r: usize) -> Floor
+    requires known { Known game.now acc }
+    requires column_in_game { (b < layers game.now.arena.mode) × (r < game.now.arena.states) }
+    ensures { FloorOf (board game.now) game.now.arena.mode b r result.hit result.value }
 {
-    let mode = g.mode;
-    let top = g.top;
-    let states = g.states;
     if words::has(acc, r) {
         return Floor { hit: 0, value: 0 };
     }
-    match mode {
+    match game.arena.mode {
         Mode::Ordinary => Floor { hit: 0, value: 0 },
         Mode::Direct => Floor {
             hit: acc,
-            value: top,
+            value: game.arena.top,
         },
-        Mode::Delayed => {
-            if b == 0 {
-                return Floor { hit: 0, value: 0 };
-            }
-            Floor {
-                hit: words::below(states),
-                value: 1,
-            }
-        }
+        Mode::Delayed if b == 0 => Floor { hit: 0, value: 0 },
+        Mode::Delayed => Floor {
+            hit: words::below(game.arena.states),
+            value: 1,
+        },
         Mode::Fair => Floor { hit: acc, value: 1 },
     }
 }
 
 // Raises every (b, q, r) to what it asks for with High 0.
 pub fn begin_layer(
-    g: Arena,
-    marks: &[u8],
-    moves: &[u8],
+    game: &Game,
     acc: u64,
     table: &mut [u32],
     risen: &mut [u64],
@@ -61,21 +53,21 @@ pub fn begin_layer(
     olds: &mut [u32],
     b: usize,
 ) -> usize
-    requires raising { Raising g marks.now moves.now (rising table.old risen.old rows.old olds.old) }
-    requires known { Known g marks.now moves.now acc }
-    requires b_bound { b < layers g.mode }
-    ensures pushed { Pushed (board_in g marks.now moves.now) g.mode (rising table.old risen.old rows.old olds.old) (rising table.new risen.new rows.new olds.new) result }
-    ensures all_floored { AllFloored (board_in g marks.now moves.now) g.mode table.new b }
+    requires raising { Raising game.now (rising table.old risen.old rows.old olds.old) }
+    requires known { Known game.now acc }
+    requires bit_in_game { b < layers game.now.arena.mode }
+    ensures pushed { Pushed (board game.now) game.now.arena.mode (rising table.old risen.old rows.old olds.old) (rising table.new risen.new rows.new olds.new) result }
+    ensures all_floored { AllFloored (board game.now) game.now.arena.mode table.new b }
 {
-    let states = g.states;
     let mut raised = 0;
-    let mut r = 0;
-    while r < states {
-        let o = floor_of(g, marks, moves, acc, b, r);
-        raised += put(
-            g, marks, moves, table, risen, rows, olds, b, r, o.hit, 0, o.value, o.value,
-        );
-        r += 1;
+    for r in 0..game.arena.states {
+        let Floor { hit, value } = floor_of(game, acc, b, r);
+        let gift = Gift {
+            bump: 0,
+            plain: value,
+            more: value,
+        };
+        raised += put(game, table, risen, rows, olds, b, r, hit, gift);
     }
     raised
 }

@@ -1,48 +1,42 @@
 // What has been pushed into a column so far. An entry no greater than the greatest so far raises nothing where that one has been.
-ghost use Rattle.std.specs.Prelude.{◌≡◌, suc, max, min};
+ghost use Rattle.std.specs.Prelude.{◌≡◌, max};
 ghost use Rattle.spoilers.specs.Front.{Cover, Fresh};
 
-// The greatest entry pushed so far, the states that have had it, and how many entries rose for the first time in this half.
+use std::cmp::Ordering;
+
+// The greatest entry pushed so far, and the states that have had it.
 #[derive(Clone, Copy)]
 pub struct Front {
-    pub cur: u32,
-    pub done: u64,
-    pub raised: usize,
+    pub greatest: u32,
+    pub had: u64,
 }
 
-// The greater of v and cur.
-pub fn higher(v: u32, cur: u32) -> u32
-    ensures { result ≡ max v cur }
-{
-    if v > cur { v } else { cur }
-}
-
-// One more than v, up to top.
-pub fn bumped(v: u32, top: u32) -> u32
-    ensures { result ≡ min (suc v) top }
-{
-    if v < top { v + 1 } else { top }
-}
-
-// Those of `before` that v may raise: not those that have had cur, where v is no greater.
-pub fn fresh(before: u64, done: u64, v: u32, cur: u32) -> u64
-    ensures { Fresh before done v cur result }
-{
-    if v > cur {
-        return before;
+impl Front {
+    // Those of `before` that v may raise: not those that have had the greatest, where v is no greater.
+    pub fn fresh(self, before: u64, v: u32) -> u64
+        ensures { Fresh before self.had v self.greatest result }
+    {
+        if v > self.greatest {
+            before
+        } else {
+            words::minus(before, self.had)
+        }
     }
-    words::minus(before, done)
-}
 
-// Those that have had the greater of v and cur.
-pub fn cover(before: u64, done: u64, v: u32, cur: u32) -> u64
-    ensures { Cover before done v cur result }
-{
-    if v > cur {
-        return before;
+    // Now v has been pushed to `before` too.
+    pub fn add(&mut self, before: u64, v: u32)
+        ensures greatest { self.new.greatest ≡ max v self.old.greatest }
+        ensures had { Cover before self.old.had v self.old.greatest self.new.had }
+    {
+        match v.cmp(&self.greatest) {
+            Ordering::Greater => {
+                *self = Front {
+                    greatest: v,
+                    had: before,
+                };
+            }
+            Ordering::Equal => self.had = words::join(self.had, before),
+            Ordering::Less => {}
+        }
     }
-    if v < cur {
-        return done;
-    }
-    words::join(done, before)
 }

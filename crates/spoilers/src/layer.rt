@@ -2,21 +2,20 @@
 ghost use Rattle.std.specs.Prelude.{◌≤◌, ◌<◌, length};
 ghost use Rattle.automaton.specs.Limits.{most_states};
 ghost use Rattle.simulation.specs.Position.{layers};
-ghost use Rattle.arena.specs.Arena.{board_in};
+ghost use Rattle.arena.specs.Game.{board};
 ghost use Rattle.halves.specs.Rising.{Pushed, rising};
 ghost use Rattle.spoilers.specs.Front.{Columned, Columns, Layered};
-ghost use Rattle.spoilers.specs.Shape.{Reading};
+ghost use Rattle.spoilers.specs.Shape.{Known, Reading};
 ghost use Rattle.spoilers.specs.Work.{Working};
 
-use super::column::column_at;
+use super::column::Column;
+use super::front::Front;
 use super::letter::letter;
-use arena::Arena;
+use arena::Game;
 
 // Pushes every entry that is marked for column (b, ·, r).
 fn column(
-    g: Arena,
-    marks: &[u8],
-    moves: &[u8],
+    game: &Game,
     acc: u64,
     into: &[u64],
     grown: &[u64],
@@ -27,50 +26,45 @@ fn column(
     b: usize,
     r: usize,
 ) -> usize
-    requires working { Working g marks.now moves.now (rising table.old risen.old rows.old olds.old) }
-    requires reading { Reading g marks.now moves.now acc into.now grown.now }
-    requires b_bound { (b < layers g.mode) × (r < g.states) }
-    ensures pushed { Pushed (board_in g marks.now moves.now) g.mode (rising table.old risen.old rows.old olds.old) (rising table.new risen.new rows.new olds.new) result }
-    ensures columned { Columned (board_in g marks.now moves.now) g.mode grown.now b table.new r }
+    requires working { Working game.now (rising table.old risen.old rows.old olds.old) }
+    requires known { Known game.now acc }
+    requires reading { Reading game.now into.now grown.now }
+    requires column_in_game { (b < layers game.now.arena.mode) × (r < game.now.arena.states) }
+    ensures pushed { Pushed (board game.now) game.now.arena.mode (rising table.old risen.old rows.old olds.old) (rising table.new risen.new rows.new olds.new) result }
+    ensures columned { Columned (board game.now) game.now.arena.mode grown.now b table.new r }
 {
-    let letters = g.letters;
-    let c = column_at(g, marks, moves, acc, b, r);
-    if c.from > g.top {
+    let c = Column::of(game, acc, b, r);
+    if c.rule.from > game.arena.top {
         return 0;
     }
-    let mut cur = 0;
-    let mut done = 0;
+    let mut front = Front {
+        greatest: 0,
+        had: 0,
+    };
     let mut raised = 0;
-    let mut a = 0;
-    while a < letters {
-        let f = letter(
-            g, marks, moves, acc, into, grown, table, risen, rows, olds, c, a, cur, done,
+    for a in 0..game.arena.letters {
+        raised += letter(
+            game, into, grown, table, risen, rows, olds, c, a, &mut front,
         );
-        cur = f.cur;
-        done = f.done;
-        raised += f.raised;
-        a += 1;
     }
     raised
 }
 
 // The r of the columns (b, ·, r) for which something is marked.
-fn stirred(g: Arena, marks: &[u8], moves: &[u8], columns: &[u64], b: usize) -> u64
-    requires { (g.states ≤ most_states) × (b < layers g.mode) × (layers g.mode ≤ length columns.now) }
-    ensures { Columns (board_in g marks.now moves.now) g.mode columns.now b result }
+fn stirred(game: &Game, columns: &[u64], b: usize) -> u64
+    requires few { game.now.arena.states ≤ most_states }
+    requires bit_in_game { b < layers game.now.arena.mode }
+    requires sets { layers game.now.arena.mode ≤ length columns.now }
+    ensures { Columns (board game.now) game.now.arena.mode columns.now b result }
 {
-    let mode = g.mode;
-    let states = g.states;
     let plain = columns[b];
-    let marked = columns[arena::pended(mode, b)];
-    words::meet(words::join(plain, marked), words::below(states))
+    let marked = columns[arena::pended(game.arena.mode, b)];
+    words::meet(words::join(plain, marked), words::below(game.arena.states))
 }
 
 // Pushes every entry that is marked for the columns of b.
 pub fn layer(
-    g: Arena,
-    marks: &[u8],
-    moves: &[u8],
+    game: &Game,
     acc: u64,
     into: &[u64],
     grown: &[u64],
@@ -81,20 +75,17 @@ pub fn layer(
     olds: &mut [u32],
     b: usize,
 ) -> usize
-    requires working { Working g marks.now moves.now (rising table.old risen.old rows.old olds.old) }
-    requires reading { Reading g marks.now moves.now acc into.now grown.now }
-    requires mode_in_bounds { (layers g.mode ≤ length columns.now) × (b < layers g.mode) }
-    ensures pushed { Pushed (board_in g marks.now moves.now) g.mode (rising table.old risen.old rows.old olds.old) (rising table.new risen.new rows.new olds.new) result }
-    ensures layered { Layered (board_in g marks.now moves.now) g.mode grown.now columns.now table.new b }
+    requires working { Working game.now (rising table.old risen.old rows.old olds.old) }
+    requires known { Known game.now acc }
+    requires reading { Reading game.now into.now grown.now }
+    requires sets { layers game.now.arena.mode ≤ length columns.now }
+    requires bit_in_game { b < layers game.now.arena.mode }
+    ensures pushed { Pushed (board game.now) game.now.arena.mode (rising table.old risen.old rows.old olds.old) (rising table.new risen.new rows.new olds.new) result }
+    ensures layered { Layered (board game.now) game.now.arena.mode grown.now columns.now table.new b }
 {
     let mut raised = 0;
-    let mut m = stirred(g, marks, moves, columns, b);
-    while m != 0 {
-        let r = words::lowest(m);
-        m = words::rest(m);
-        raised += column(
-            g, marks, moves, acc, into, grown, table, risen, rows, olds, b, r,
-        );
+    for r in words::members(stirred(game, columns, b)) {
+        raised += column(game, acc, into, grown, table, risen, rows, olds, b, r);
     }
     raised
 }

@@ -1,24 +1,20 @@
 // Pushing what is marked by one letter into a column.
 ghost use Rattle.std.specs.Prelude.{◌<◌};
-ghost use Rattle.arena.specs.Arena.{board_in};
+ghost use Rattle.arena.specs.Game.{board};
 ghost use Rattle.halves.specs.Drawn.{Into};
 ghost use Rattle.halves.specs.Rising.{Pushed, rising};
 ghost use Rattle.spoilers.specs.Front.{Guarded, Heard, Lettered};
-ghost use Rattle.spoilers.specs.Shape.{Known, Reading, Shaped};
+ghost use Rattle.spoilers.specs.Shape.{Reading, Shaped};
 ghost use Rattle.spoilers.specs.Work.{Working};
 
 use super::column::Column;
-use super::front::{Front, bumped, cover, fresh, higher};
+use super::front::Front;
 use super::raise::put;
-use super::source::{source, sources};
-use arena::Arena;
+use arena::Game;
 
-// Pushes one entry, that of the move to x by a, to the states before x.
+// Pushes one entry, that of the move to x by a, to the states before x: how many entries rise for the first time in this half.
 fn push_one(
-    g: Arena,
-    marks: &[u8],
-    moves: &[u8],
-    acc: u64,
+    game: &Game,
     into: &[u64],
     table: &mut [u32],
     risen: &mut [u64],
@@ -27,48 +23,32 @@ fn push_one(
     c: Column,
     a: usize,
     x: usize,
-    cur: u32,
-    done: u64,
-) -> Front
-    requires working { Working g marks.now moves.now (rising table.old risen.old rows.old olds.old) }
-    requires known { Known g marks.now moves.now acc }
-    requires into { Into (board_in g marks.now moves.now) into.now }
-    requires shaped { Shaped (board_in g marks.now moves.now) g.mode acc c }
-    requires a_lt_letters { (a < g.letters) × (x < g.states) }
-    requires guarded { Guarded (board_in g marks.now moves.now) g.mode table.old c cur done }
-    ensures pushed { Pushed (board_in g marks.now moves.now) g.mode (rising table.old risen.old rows.old olds.old) (rising table.new risen.new rows.new olds.new) result.raised }
-    ensures guarded_2 { Guarded (board_in g marks.now moves.now) g.mode table.new c result.cur result.done }
-    ensures heard { Heard (board_in g marks.now moves.now) g.mode c.bit c.blue a table.new x }
+    front: &mut Front,
+) -> usize
+    requires working { Working game.now (rising table.old risen.old rows.old olds.old) }
+    requires into { Into (board game.now) into.now }
+    requires shaped { Shaped game.now c }
+    requires move_in_game { (a < game.now.arena.letters) × (x < game.now.arena.states) }
+    requires guarded { Guarded (board game.now) game.now.arena.mode table.old c front.old }
+    ensures pushed { Pushed (board game.now) game.now.arena.mode (rising table.old risen.old rows.old olds.old) (rising table.new risen.new rows.new olds.new) result }
+    ensures still_guarded { Guarded (board game.now) game.now.arena.mode table.new c front.new }
+    ensures heard { Heard (board game.now) game.now.arena.mode c.bit c.blue a table.new x }
 {
-    let letters = g.letters;
-    let top = g.top;
-    let v = table[source(g, marks, moves, acc, c, a, x)];
-    if v < c.from {
-        return Front {
-            cur: cur,
-            done: done,
-            raised: 0,
-        };
+    let v = table[c.source(game, a, x)];
+    if v < c.rule.from {
+        return 0;
     }
-    let before = into[x * letters + a];
-    let hit = fresh(before, done, v, cur);
-    let w = bumped(v, top);
-    let raised = put(
-        g, marks, moves, table, risen, rows, olds, c.bit, c.blue, hit, c.bump, v, w,
-    );
-    Front {
-        cur: higher(v, cur),
-        done: cover(before, done, v, cur),
-        raised: raised,
-    }
+    let before = into[x * game.arena.letters + a];
+    let hit = front.fresh(before, v);
+    let gift = c.rule.gift(v, game.arena.top);
+    let raised = put(game, table, risen, rows, olds, c.bit, c.blue, hit, gift);
+    front.add(before, v);
+    raised
 }
 
-// Pushes every entry that is marked for the column and the letter.
+// Pushes every entry that is marked for the column and the letter: how many entries rise for the first time in this half.
 pub fn letter(
-    g: Arena,
-    marks: &[u8],
-    moves: &[u8],
-    acc: u64,
+    game: &Game,
     into: &[u64],
     grown: &[u64],
     table: &mut [u32],
@@ -77,35 +57,20 @@ pub fn letter(
     olds: &mut [u32],
     c: Column,
     a: usize,
-    greatest: u32,
-    had: u64,
-) -> Front
-    requires working { Working g marks.now moves.now (rising table.old risen.old rows.old olds.old) }
-    requires reading { Reading g marks.now moves.now acc into.now grown.now }
-    requires shaped { Shaped (board_in g marks.now moves.now) g.mode acc c }
-    requires a_lt_letters { a < g.letters }
-    requires guarded { Guarded (board_in g marks.now moves.now) g.mode table.old c greatest had }
-    ensures pushed { Pushed (board_in g marks.now moves.now) g.mode (rising table.old risen.old rows.old olds.old) (rising table.new risen.new rows.new olds.new) result.raised }
-    ensures guarded_2 { Guarded (board_in g marks.now moves.now) g.mode table.new c result.cur result.done }
-    ensures lettered { Lettered (board_in g marks.now moves.now) g.mode grown.now c.bit c.blue table.new a }
+    front: &mut Front,
+) -> usize
+    requires working { Working game.now (rising table.old risen.old rows.old olds.old) }
+    requires reading { Reading game.now into.now grown.now }
+    requires shaped { Shaped game.now c }
+    requires letter_in_game { a < game.now.arena.letters }
+    requires guarded { Guarded (board game.now) game.now.arena.mode table.old c front.old }
+    ensures pushed { Pushed (board game.now) game.now.arena.mode (rising table.old risen.old rows.old olds.old) (rising table.new risen.new rows.new olds.new) result }
+    ensures still_guarded { Guarded (board game.now) game.now.arena.mode table.new c front.new }
+    ensures lettered { Lettered (board game.now) game.now.arena.mode grown.now c.bit c.blue table.new a }
 {
-    let mut cur = greatest;
-    let mut done = had;
     let mut raised = 0;
-    let mut m = sources(g, marks, moves, acc, grown, c, a);
-    while m != 0 {
-        let x = words::lowest(m);
-        m = words::rest(m);
-        let f = push_one(
-            g, marks, moves, acc, into, table, risen, rows, olds, c, a, x, cur, done,
-        );
-        cur = f.cur;
-        done = f.done;
-        raised += f.raised;
+    for x in words::members(c.sources(game, grown, a)) {
+        raised += push_one(game, into, table, risen, rows, olds, c, a, x, front);
     }
-    Front {
-        cur: cur,
-        done: done,
-        raised: raised,
-    }
+    raised
 }

@@ -1,25 +1,21 @@
 // Spoiler's entries raised by what each asks for: High over Red's moves, read off the table.
+ghost use Rattle.std.specs.Int.{from_bool};
 ghost use Rattle.std.specs.Prelude.{◌<◌};
 ghost use Rattle.simulation.specs.Position.{layers};
-ghost use Rattle.arena.specs.Arena.{board_in, Ready};
+ghost use Rattle.arena.specs.Game.{board, Playable};
 ghost use Rattle.halves.specs.Drawn.{Onto};
 ghost use Rattle.halves.specs.Rising.{Pushed, rising};
 ghost use Rattle.spoilers.specs.Pull.{AllHeed, ColumnHeeds, Heeds, HighBy, HighTo};
 ghost use Rattle.spoilers.specs.Shape.{Known, Shaped};
 ghost use Rattle.spoilers.specs.Work.{Working};
 
-use super::column::{Column, column_at};
-use super::front::{bumped, higher};
-use super::raise::{given, raise};
-use super::source::source;
-use arena::Arena;
+use super::column::Column;
+use super::raise::raise;
+use arena::Game;
 
 // The greatest of `high` and of the entries that Red's moves from q by a lead to from column c.
 fn high_by(
-    g: Arena,
-    marks: &[u8],
-    moves: &[u8],
-    acc: u64,
+    game: &Game,
     onto: &[u64],
     table: &[u32],
     c: Column,
@@ -27,59 +23,37 @@ fn high_by(
     a: usize,
     high: u32,
 ) -> u32
-    requires ready { Ready g marks.now moves.now table.now }
-    requires known { Known g marks.now moves.now acc }
-    requires onto { Onto (board_in g marks.now moves.now) onto.now }
-    requires shaped { Shaped (board_in g marks.now moves.now) g.mode acc c }
-    requires q_lt_states { (q < g.states) × (a < g.letters) }
-    ensures { HighBy (board_in g marks.now moves.now) g.mode table.now c.bit q c.blue a high result }
+    requires ready { Playable game.now table.now }
+    requires onto { Onto (board game.now) onto.now }
+    requires shaped { Shaped game.now c }
+    requires move_in_game { (q < game.now.arena.states) × (a < game.now.arena.letters) }
+    ensures { HighBy (board game.now) game.now.arena.mode table.now c.bit q c.blue a high result }
 {
-    let letters = g.letters;
     let mut h = high;
-    let mut m = onto[q * letters + a];
-    while m != 0 {
-        let x = words::lowest(m);
-        m = words::rest(m);
-        let v = table[source(g, marks, moves, acc, c, a, x)];
-        h = higher(v, h);
+    for x in words::members(onto[q * game.arena.letters + a]) {
+        h = h.max(table[c.source(game, a, x)]);
     }
     h
 }
 
 // High over Red's moves from q, from column c.
-fn high_of(
-    g: Arena,
-    marks: &[u8],
-    moves: &[u8],
-    acc: u64,
-    onto: &[u64],
-    table: &[u32],
-    c: Column,
-    q: usize,
-) -> u32
-    requires ready { Ready g marks.now moves.now table.now }
-    requires known { Known g marks.now moves.now acc }
-    requires onto { Onto (board_in g marks.now moves.now) onto.now }
-    requires shaped { Shaped (board_in g marks.now moves.now) g.mode acc c }
-    requires q_lt_states { q < g.states }
-    ensures { HighTo (board_in g marks.now moves.now) g.mode table.now c.bit q c.blue g.letters result }
+fn high_of(game: &Game, onto: &[u64], table: &[u32], c: Column, q: usize) -> u32
+    requires ready { Playable game.now table.now }
+    requires onto { Onto (board game.now) onto.now }
+    requires shaped { Shaped game.now c }
+    requires state_in_game { q < game.now.arena.states }
+    ensures { HighTo (board game.now) game.now.arena.mode table.now c.bit q c.blue game.now.arena.letters result }
 {
-    let letters = g.letters;
     let mut h = 0;
-    let mut a = 0;
-    while a < letters {
-        h = high_by(g, marks, moves, acc, onto, table, c, q, a, h);
-        a += 1;
+    for a in 0..game.arena.letters {
+        h = high_by(game, onto, table, c, q, a, h);
     }
     h
 }
 
-// Raises the entry of q in column c to what it asks for: 1 if it rises for the first time in this half, else 0.
+// Raises the entry of q in column c to what it asks for: whether it rises for the first time in this half.
 fn pull_one(
-    g: Arena,
-    marks: &[u8],
-    moves: &[u8],
-    acc: u64,
+    game: &Game,
     onto: &[u64],
     table: &mut [u32],
     risen: &mut [u64],
@@ -87,31 +61,25 @@ fn pull_one(
     olds: &mut [u32],
     c: Column,
     q: usize,
-) -> usize
-    requires working { Working g marks.now moves.now (rising table.old risen.old rows.old olds.old) }
-    requires known { Known g marks.now moves.now acc }
-    requires onto { Onto (board_in g marks.now moves.now) onto.now }
-    requires shaped { Shaped (board_in g marks.now moves.now) g.mode acc c }
-    requires q_lt_states { q < g.states }
-    ensures pushed { Pushed (board_in g marks.now moves.now) g.mode (rising table.old risen.old rows.old olds.old) (rising table.new risen.new rows.new olds.new) result }
-    ensures heeds { Heeds (board_in g marks.now moves.now) g.mode c.bit c.blue table.new q }
+) -> bool
+    requires working { Working game.now (rising table.old risen.old rows.old olds.old) }
+    requires onto { Onto (board game.now) onto.now }
+    requires shaped { Shaped game.now c }
+    requires state_in_game { q < game.now.arena.states }
+    ensures pushed { Pushed (board game.now) game.now.arena.mode (rising table.old risen.old rows.old olds.old) (rising table.new risen.new rows.new olds.new) (from_bool result) }
+    ensures heeds { Heeds (board game.now) game.now.arena.mode c.bit c.blue table.new q }
 {
-    let h = high_of(g, marks, moves, acc, onto, &table[..], c, q);
-    if h < c.from {
-        return 0;
+    let h = high_of(game, onto, &table[..], c, q);
+    if h < c.rule.from {
+        return false;
     }
-    let w = bumped(h, g.top);
-    let e = given(c.bump, h, w, q);
-    raise(
-        g, marks, moves, table, risen, rows, olds, c.bit, q, c.blue, e,
-    )
+    let e = c.rule.gift(h, game.arena.top).to(q);
+    raise(game, table, risen, rows, olds, c.bit, q, c.blue, e)
 }
 
 // Raises every entry of column (b, ·, r) to what it asks for.
 fn pull_column(
-    g: Arena,
-    marks: &[u8],
-    moves: &[u8],
+    game: &Game,
     acc: u64,
     onto: &[u64],
     table: &mut [u32],
@@ -121,32 +89,28 @@ fn pull_column(
     b: usize,
     r: usize,
 ) -> usize
-    requires working { Working g marks.now moves.now (rising table.old risen.old rows.old olds.old) }
-    requires known { Known g marks.now moves.now acc }
-    requires onto { Onto (board_in g marks.now moves.now) onto.now }
-    requires b_bound { (b < layers g.mode) × (r < g.states) }
-    ensures pushed { Pushed (board_in g marks.now moves.now) g.mode (rising table.old risen.old rows.old olds.old) (rising table.new risen.new rows.new olds.new) result }
-    ensures column_heeds { ColumnHeeds (board_in g marks.now moves.now) g.mode b table.new r }
+    requires working { Working game.now (rising table.old risen.old rows.old olds.old) }
+    requires known { Known game.now acc }
+    requires onto { Onto (board game.now) onto.now }
+    requires column_in_game { (b < layers game.now.arena.mode) × (r < game.now.arena.states) }
+    ensures pushed { Pushed (board game.now) game.now.arena.mode (rising table.old risen.old rows.old olds.old) (rising table.new risen.new rows.new olds.new) result }
+    ensures column_heeds { ColumnHeeds (board game.now) game.now.arena.mode b table.new r }
 {
-    let states = g.states;
-    let c = column_at(g, marks, moves, acc, b, r);
-    if c.from > g.top {
+    let c = Column::of(game, acc, b, r);
+    if c.rule.from > game.arena.top {
         return 0;
     }
     let mut raised = 0;
-    let mut q = 0;
-    while q < states {
-        raised += pull_one(g, marks, moves, acc, onto, table, risen, rows, olds, c, q);
-        q += 1;
+    for q in 0..game.arena.states {
+        let rose = pull_one(game, onto, table, risen, rows, olds, c, q);
+        raised += usize::from(rose);
     }
     raised
 }
 
 // Raises every entry (b, q, r) to what it asks for.
 pub fn pull_layer(
-    g: Arena,
-    marks: &[u8],
-    moves: &[u8],
+    game: &Game,
     acc: u64,
     onto: &[u64],
     table: &mut [u32],
@@ -155,19 +119,16 @@ pub fn pull_layer(
     olds: &mut [u32],
     b: usize,
 ) -> usize
-    requires working { Working g marks.now moves.now (rising table.old risen.old rows.old olds.old) }
-    requires known { Known g marks.now moves.now acc }
-    requires onto { Onto (board_in g marks.now moves.now) onto.now }
-    requires b_bound { b < layers g.mode }
-    ensures pushed { Pushed (board_in g marks.now moves.now) g.mode (rising table.old risen.old rows.old olds.old) (rising table.new risen.new rows.new olds.new) result }
-    ensures all_heed { AllHeed (board_in g marks.now moves.now) g.mode table.new b }
+    requires working { Working game.now (rising table.old risen.old rows.old olds.old) }
+    requires known { Known game.now acc }
+    requires onto { Onto (board game.now) onto.now }
+    requires bit_in_game { b < layers game.now.arena.mode }
+    ensures pushed { Pushed (board game.now) game.now.arena.mode (rising table.old risen.old rows.old olds.old) (rising table.new risen.new rows.new olds.new) result }
+    ensures all_heed { AllHeed (board game.now) game.now.arena.mode table.new b }
 {
-    let states = g.states;
     let mut raised = 0;
-    let mut r = 0;
-    while r < states {
-        raised += pull_column(g, marks, moves, acc, onto, table, risen, rows, olds, b, r);
-        r += 1;
+    for r in 0..game.arena.states {
+        raised += pull_column(game, acc, onto, table, risen, rows, olds, b, r);
     }
     raised
 }

@@ -4,74 +4,58 @@ ghost use Rattle.games.specs.Game.{at};
 ghost use Rattle.words.specs.Word.{dig};
 ghost use Rattle.automaton.specs.Limits.{most_letters, most_states};
 ghost use Rattle.simulation.specs.Position.{layers};
-ghost use Rattle.arena.specs.Arena.{board_in};
+ghost use Rattle.arena.specs.Game.{board};
 ghost use Rattle.halves.specs.Half.{challenged};
 ghost use Rattle.spoilers.specs.Front.{Sources};
-ghost use Rattle.spoilers.specs.Shape.{Known, Shaped};
+ghost use Rattle.spoilers.specs.Shape.{Shaped};
 
 use super::column::Column;
-use arena::Arena;
-
-// Where the entries begin that moves to x lead to.
-fn base_of(acc: u64, c: Column, x: usize) -> usize
-    requires { x < 64 }
-    ensures { result ≡ cond (eqb (dig acc x) 1) c.marked c.plain }
-{
-    if words::has(acc, x) {
-        return c.marked;
-    }
-    c.plain
-}
-
-// The entry that Red's move to x by a leads to from column c.
-pub fn source(
-    g: Arena,
-    marks: &[u8],
-    moves: &[u8],
-    acc: u64,
-    c: Column,
-    a: usize,
-    x: usize,
-) -> usize
-    requires known { Known g marks.now moves.now acc }
-    requires shaped { Shaped (board_in g marks.now moves.now) g.mode acc c }
-    requires a_lt_letters { (a < g.letters) × (x < g.states) }
-    ensures { result ≡ challenged (board_in g marks.now moves.now) g.mode c.bit c.blue x a }
-{
-    let states = g.states;
-    let letters = g.letters;
-    base_of(acc, c, x) + x * (states * letters) + a
-}
+use arena::{Arena, Game};
 
 // The word of marks for Duplicator's column (b, ·, r, a).
 fn marks_at(g: Arena, grown: &[u64], b: usize, r: usize, a: usize) -> u64
-    requires states_le_most_states { (g.states ≤ most_states) × (g.letters ≤ most_letters) }
-    requires b_bound { (b < layers g.mode) × (r < g.states) × (a < g.letters) }
-    requires letters_in_bounds { layers g.mode * g.states * g.letters ≤ length grown.now }
+    requires limits { (g.states ≤ most_states) × (g.letters ≤ most_letters) }
+    requires column_in_game { (b < layers g.mode) × (r < g.states) × (a < g.letters) }
+    requires words { layers g.mode * g.states * g.letters ≤ length grown.now }
     ensures { result ≡ at grown.now ((b * g.states + r) * g.letters + a) }
 {
-    let states = g.states;
-    let letters = g.letters;
-    grown[(b * states + r) * letters + a]
+    grown[(b * g.states + r) * g.letters + a]
 }
 
-// The states to which moves by a lead from column c to an entry that is marked.
-pub fn sources(
-    g: Arena,
-    marks: &[u8],
-    moves: &[u8],
-    acc: u64,
-    grown: &[u64],
-    c: Column,
-    a: usize,
-) -> u64
-    requires known { Known g marks.now moves.now acc }
-    requires shaped { Shaped (board_in g marks.now moves.now) g.mode acc c }
-    requires letters_in_bounds { layers g.mode * g.states * g.letters ≤ length grown.now }
-    requires a_lt_letters { a < g.letters }
-    ensures { Sources (board_in g marks.now moves.now) g.mode grown.now c.bit c.blue a result }
-{
-    let plain = marks_at(g, grown, c.bit, c.blue, a);
-    let marked = marks_at(g, grown, c.owing, c.blue, a);
-    words::join(words::meet(plain, c.others), words::meet(marked, acc))
+impl Column {
+    // Where the entries begin that moves to x lead to.
+    fn begin(self, x: usize) -> usize
+        requires { x < 64 }
+        ensures { result ≡ cond (eqb (dig self.accepting x) 1) self.marked self.plain }
+    {
+        if words::has(self.accepting, x) {
+            self.marked
+        } else {
+            self.plain
+        }
+    }
+
+    // The entry that Red's move to x by a leads to.
+    pub fn source(self, game: &Game, a: usize, x: usize) -> usize
+        requires shaped { Shaped game.now self }
+        requires move_in_game { (a < game.now.arena.letters) × (x < game.now.arena.states) }
+        ensures { result ≡ challenged (board game.now) game.now.arena.mode self.bit self.blue x a }
+    {
+        self.begin(x) + x * (game.arena.states * game.arena.letters) + a
+    }
+
+    // The states to which moves by a lead to an entry that is marked.
+    pub fn sources(self, game: &Game, grown: &[u64], a: usize) -> u64
+        requires shaped { Shaped game.now self }
+        requires words { layers game.now.arena.mode * game.now.arena.states * game.now.arena.letters ≤ length grown.now }
+        requires letter_in_game { a < game.now.arena.letters }
+        ensures { Sources (board game.now) game.now.arena.mode grown.now self.bit self.blue a result }
+    {
+        let plain = marks_at(game.arena, grown, self.bit, self.blue, a);
+        let marked = marks_at(game.arena, grown, self.owing, self.blue, a);
+        words::join(
+            words::meet(plain, self.others),
+            words::meet(marked, self.accepting),
+        )
+    }
 }

@@ -18,8 +18,8 @@ use Rattle.simulation.specs.Position.{pairs, positions}
 use Rattle.simulation.specs.Rules.{game}
 use Rattle.simulation.proofs.Limits.{positions-most}
 use Rattle.simulation.proofs.Position.{positions_are}
-use Rattle.arena.specs.declared.Arena.{Arena}
-use Rattle.arena.specs.Arena.{board_in, game_in, Ready}
+use Rattle.arena.specs.declared.game.Game.{Game}
+use Rattle.arena.specs.Game.{board, played, Playable}
 use Rattle.halves.specs.Rising.{Rising, Noted, AllNoted, AllMarked, Blank}
 use Rattle.halves.proofs.Apart.{spoilers_apart, duplicators_apart}
 use Rattle.halves.proofs.Rest.{calm-again}
@@ -52,28 +52,28 @@ module _ (B : Board) (m : Mode) (F : Formed B) where
 
 -- ---- the same of an arena and the lent bytes
 
-module _ {g : Arena} {marks moves t : List ℕ} (ready : Ready g marks moves t) where
+module _ (g : Game) {t : List ℕ} (ready : Playable g t) where
   -- a half of a sweep raises no more than the entries that there are
   pub rose-few : (u : List ℕ) → rose t u (length t) ≤ 139264
-  rose-few u = omega (arith, rose-most t u (length t), ready.entries, positions-most (board_in g marks moves) ready.formed g.mode)
+  rose-few u = omega (arith, rose-most t u (length t), ready.entries, positions-most (board g) ready.formed g.arena.mode)
 
-  pub spoilers_half : {u : List ℕ} → Halved (game_in g marks moves) 0 g.pairs t u → Halved (game_in g marks moves) 0 (pairs (board_in g marks moves) g.mode) t u
+  pub spoilers_half : {u : List ℕ} → Halved (played g) 0 g.arena.pairs t u → Halved (played g) 0 (pairs (board g) g.arena.mode) t u
   spoilers_half x = rw ready.paired at x
 
-  pub duplicators_half : {u : List ℕ} → Halved (game_in g marks moves) g.pairs (length t) t u
-      → Halved (game_in g marks moves) (pairs (board_in g marks moves) g.mode) (positions (board_in g marks moves) g.mode) t u
+  pub duplicators_half : {u : List ℕ} → Halved (played g) g.arena.pairs (length t) t u
+      → Halved (played g) (pairs (board g) g.arena.mode) (positions (board g) g.arena.mode) t u
   duplicators_half y = rw (ready.paired, ready.entries) at y
 
   -- Spoiler's half raises c entries and leaves u, and Duplicator's raises d and leaves w
-  pub sweep-done : (u w risen grown columns : List ℕ) {c d : ℕ} → Halved (game_in g marks moves) 0 (pairs (board_in g marks moves) g.mode) t u
-      → Halved (game_in g marks moves) (pairs (board_in g marks moves) g.mode) (positions (board_in g marks moves) g.mode) u w
-      → c ≡ rose t u (length t) → d ≡ rose u w (length u) → Capped (game_in g marks moves) t
-      → AllMarked (board_in g marks moves) g.mode u w grown columns → Blank (board_in g marks moves) g.mode risen
-      → (c + d ≡ raises (game_in g marks moves) t (sweep (game_in g marks moves)))
-      × ((w ≡ lifts (game_in g marks moves) t (sweep (game_in g marks moves))) × Poised (board_in g marks moves) g.mode w risen grown columns)
+  pub sweep-done : (u w risen grown columns : List ℕ) {c d : ℕ} → Halved (played g) 0 (pairs (board g) g.arena.mode) t u
+      → Halved (played g) (pairs (board g) g.arena.mode) (positions (board g) g.arena.mode) u w
+      → c ≡ rose t u (length t) → d ≡ rose u w (length u) → Capped (played g) t
+      → AllMarked (board g) g.arena.mode u w grown columns → Blank (board g) g.arena.mode risen
+      → (c + d ≡ raises (played g) t (sweep (played g)))
+      × ((w ≡ lifts (played g) t (sweep (played g))) × Poised (board g) g.arena.mode w risen grown columns)
   sweep-done u w risen grown columns x y e f capped marked blank =
-      let B = board_in g marks moves in
-      let (a, b) = swept B g.mode ready.formed t u w ready.entries x y in (
+      let B = board g in
+      let (a, b) = swept B g.arena.mode ready.formed t u w ready.entries x y in (
         omega (arith, b, rw ready.entries at e, rw (x.entries ∙ ready.entries) at f),
-        (sym a, poised_again B g.mode ready.formed t u w ready.entries x y risen grown columns capped marked blank),
+        (sym a, poised_again B g.arena.mode ready.formed t u w ready.entries x y risen grown columns capped marked blank),
       )

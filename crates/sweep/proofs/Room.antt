@@ -7,8 +7,8 @@ use native.Mathlib.Omega.{arith}
 use lib.ListN.{length}
 use Rattle.simulation.specs.Position.{layers}
 use Rattle.simulation.proofs.Limits.{layers-most}
-use Rattle.arena.specs.declared.Arena.{Arena}
-use Rattle.arena.specs.Arena.{board_in}
+use Rattle.arena.specs.declared.game.Game.{Game}
+use Rattle.arena.specs.Game.{board}
 use Rattle.arena.proofs.Open.{ready-again}
 use Rattle.halves.specs.Rising.{Roomy, Spacious}
 use Rattle.sweep.specs.Poised.{Equipped}
@@ -51,11 +51,11 @@ alike_more a b = record {
   like_columns = b.like_columns ∙ a.like_columns;
 }
 
-pub equipped_again : {g : Arena} {marks moves into onto : List ℕ} {acc : ℕ} {l m : Lists}
-    → Equipped g marks moves l.table acc into onto l.risen l.rows l.olds l.grown l.columns → Alike l m
-    → Equipped g marks moves m.table acc into onto m.risen m.rows m.olds m.grown m.columns
-equipped_again {g} {marks} {moves} {l = l} {m = m} e a = record {
-  ready = ready-again g marks moves l.table m.table e.ready a.like_table;
+pub equipped_again : {g : Game} {into onto : List ℕ} {acc : ℕ} {l m : Lists}
+    → Equipped g l.table acc into onto l.risen l.rows l.olds l.grown l.columns → Alike l m
+    → Equipped g m.table acc into onto m.risen m.rows m.olds m.grown m.columns
+equipped_again {g} {l = l} {m = m} e a = record {
+  ready = ready-again g.arena g.marks.now g.moves.now l.table m.table e.ready a.like_table;
   accepting = e.accepting;
   before = e.before;
   after = e.after;
@@ -68,20 +68,20 @@ equipped_again {g} {marks} {moves} {l = l} {m = m} e a = record {
 
 -- ---- room for what is noted and marked
 
-module _ {g : Arena} {marks moves into onto : List ℕ} {acc : ℕ} (l : Lists)
-    (e : Equipped g marks moves l.table acc into onto l.risen l.rows l.olds l.grown l.columns) where
-  rows-most : layers g.mode * g.states ≤ 2 * g.states
-  rows-most = mul-le-mul {m₁ = g.states} {n₂ = 2} {m₂ = g.states} (layers-most g.mode) (omega arith)
+module _ {g : Game} {into onto : List ℕ} {acc : ℕ} (l : Lists)
+    (e : Equipped g l.table acc into onto l.risen l.rows l.olds l.grown l.columns) where
+  rows-most : layers g.arena.mode * g.arena.states ≤ 2 * g.arena.states
+  rows-most = mul-le-mul {m₁ = g.arena.states} {n₂ = 2} {m₂ = g.arena.states} (layers-most g.arena.mode) (omega arith)
 
-  pub roomy_of : Roomy (board_in g marks moves) g.mode (record { table = l.table; risen = l.risen; rows = l.rows; olds = l.olds })
+  pub roomy_of : Roomy (board g) g.arena.mode (record { table = l.table; risen = l.risen; rows = l.rows; olds = l.olds })
   roomy_of = record {
     risen = omega (arith, rows-most, e.for_risen);
-    rows = omega (arith, layers-most g.mode, e.for_rows);
+    rows = omega (arith, layers-most g.arena.mode, e.for_rows);
     olds = omega (arith, rows-most, e.for_olds);
   }
 
-  pub spacious_of : Spacious (board_in g marks moves) g.mode l.grown l.columns
+  pub spacious_of : Spacious (board g) g.arena.mode l.grown l.columns
   spacious_of = record {
-    words = omega (arith, mul-le-mul {m₁ = g.letters} {n₂ = 2 * g.states} {m₂ = g.letters} rows-most (omega arith), e.for_grown);
-    sets = omega (arith, layers-most g.mode, e.for_columns);
+    words = omega (arith, mul-le-mul {m₁ = g.arena.letters} {n₂ = 2 * g.arena.states} {m₂ = g.arena.letters} rows-most (omega arith), e.for_grown);
+    sets = omega (arith, layers-most g.arena.mode, e.for_columns);
   }

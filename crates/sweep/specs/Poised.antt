@@ -8,8 +8,8 @@ use Rattle.automaton.specs.declared.Mode.{Mode}
 use Rattle.automaton.specs.Board.{Board}
 use Rattle.simulation.specs.Position.{layers, pairs, positions}
 use Rattle.simulation.specs.Rules.{game}
-use Rattle.arena.specs.declared.Arena.{Arena}
-use Rattle.arena.specs.Arena.{board_in, Ready}
+use Rattle.arena.specs.declared.game.Game.{Game}
+use Rattle.arena.specs.Game.{board, Playable}
 use Rattle.halves.specs.Drawn.{Accepting, Into, Onto}
 use Rattle.halves.specs.Rising.{Blank}
 use Rattle.halves.specs.Half.{AllCalm}
@@ -30,13 +30,13 @@ pub record Poised (B : Board) (m : Mode) (t risen grown columns : List ℕ) : Ty
   pub blank : Blank B m risen
 
 -- What a sweep works with: the arena, the words that are drawn, and room for what is noted and marked with b 0 or 1.
-pub record Equipped (g : Arena) (marks moves table : List ℕ) (acc : ℕ) (into onto risen rows olds grown columns : List ℕ) : Type 0 where
-  pub ready : Ready g marks moves table
-  pub accepting : Accepting (board_in g marks moves) acc
-  pub before : Into (board_in g marks moves) into
-  pub after : Onto (board_in g marks moves) onto
-  pub for_risen : 2 * g.states ≤ length risen
+pub record Equipped (g : Game) (table : List ℕ) (acc : ℕ) (into onto risen rows olds grown columns : List ℕ) : Type 0 where
+  pub ready : Playable g table
+  pub accepting : Accepting (board g) acc
+  pub before : Into (board g) into
+  pub after : Onto (board g) onto
+  pub for_risen : 2 * g.arena.states ≤ length risen
   pub for_rows : 2 ≤ length rows
-  pub for_olds : 2 * g.states ≤ length olds
-  pub for_grown : 2 * g.states * g.letters ≤ length grown
+  pub for_olds : 2 * g.arena.states ≤ length olds
+  pub for_grown : 2 * g.arena.states * g.arena.letters ≤ length grown
   pub for_columns : 2 ≤ length columns

@@ -2,24 +2,22 @@
 // It stands by itself: `rounds` goes from sweep to sweep by what a sweep promises, whichever way it is made.
 #![tactic(auto)]
 
-mod ways; // ways.rt: the ways through Spoiler's half
-mod wipe; // wipe.rt: taking marks away
+mod ways;
+mod wipe;
 
 ghost use Rattle.std.specs.Prelude.{◌≡◌};
 ghost use Rattle.games.specs.Lift.{cleared, lifts, raises};
 ghost use Rattle.games.specs.Settle.{sweep};
-ghost use Rattle.arena.specs.Arena.{board_in, game_in};
+ghost use Rattle.arena.specs.Game.{board, played};
 ghost use Rattle.halves.specs.Rising.{Blank};
 ghost use Rattle.sweep.specs.Poised.{Equipped, Poised};
 
-use arena::Arena;
+use arena::Game;
 pub use wipe::UNSEEN;
 
 // The first sweep of a cleared table, a full pass: how many lifts raised an entry.
 pub fn first(
-    g: Arena,
-    marks: &[u8],
-    moves: &[u8],
+    game: &Game,
     acc: u64,
     into: &[u64],
     onto: &[u64],
@@ -30,19 +28,17 @@ pub fn first(
     grown: &mut [u64],
     columns: &mut [u64],
 ) -> usize
-    requires equipped { Equipped g marks.now moves.now table.old acc into.now onto.now risen.old rows.old olds.old grown.old columns.old }
-    requires table_value { table.old ≡ cleared (game_in g marks.now moves.now) }
-    requires blank { Blank (board_in g marks.now moves.now) g.mode risen.old }
-    ensures value { result ≡ raises (game_in g marks.now moves.now) table.old (sweep (game_in g marks.now moves.now)) }
-    ensures table_after { table.new ≡ lifts (game_in g marks.now moves.now) table.old (sweep (game_in g marks.now moves.now)) }
-    ensures poised { Poised (board_in g marks.now moves.now) g.mode table.new risen.new grown.new columns.new }
+    requires equipped { Equipped game.now table.old acc into.now onto.now risen.old rows.old olds.old grown.old columns.old }
+    requires table_value { table.old ≡ cleared (played game.now) }
+    requires blank { Blank (board game.now) game.now.arena.mode risen.old }
+    ensures value { result ≡ raises (played game.now) table.old (sweep (played game.now)) }
+    ensures table_after { table.new ≡ lifts (played game.now) table.old (sweep (played game.now)) }
+    ensures poised { Poised (board game.now) game.now.arena.mode table.new risen.new grown.new columns.new }
 {
-    let begun = spoilers::begin(g, marks, moves, acc, table, risen, rows, olds);
-    let ended = duplicators::dead_ends(g, marks, moves, acc, onto, table, grown, columns);
+    let begun = spoilers::begin(game, acc, table, risen, rows, olds);
+    let ended = duplicators::dead_ends(game, acc, onto, table, grown, columns);
     let answered = duplicators::answer(
-        g,
-        marks,
-        moves,
+        game,
         acc,
         into,
         onto,
@@ -53,15 +49,13 @@ pub fn first(
         grown,
         columns,
     );
-    wipe::all_rows(g, marks, moves, risen, rows, olds);
+    wipe::all_rows(game, risen, rows, olds);
     begun + ended + answered
 }
 
 // A later sweep: how many lifts raised an entry. `last` is how many did in the sweep before.
 pub fn again(
-    g: Arena,
-    marks: &[u8],
-    moves: &[u8],
+    game: &Game,
     acc: u64,
     into: &[u64],
     onto: &[u64],
@@ -73,16 +67,14 @@ pub fn again(
     columns: &mut [u64],
     last: usize,
 ) -> usize
-    requires equipped { Equipped g marks.now moves.now table.old acc into.now onto.now risen.old rows.old olds.old grown.old columns.old }
-    requires poised { Poised (board_in g marks.now moves.now) g.mode table.old risen.old grown.old columns.old }
-    ensures value { result ≡ raises (game_in g marks.now moves.now) table.old (sweep (game_in g marks.now moves.now)) }
-    ensures table_after { table.new ≡ lifts (game_in g marks.now moves.now) table.old (sweep (game_in g marks.now moves.now)) }
-    ensures poised_2 { Poised (board_in g marks.now moves.now) g.mode table.new risen.new grown.new columns.new }
+    requires equipped { Equipped game.now table.old acc into.now onto.now risen.old rows.old olds.old grown.old columns.old }
+    requires poised { Poised (board game.now) game.now.arena.mode table.old risen.old grown.old columns.old }
+    ensures value { result ≡ raises (played game.now) table.old (sweep (played game.now)) }
+    ensures table_after { table.new ≡ lifts (played game.now) table.old (sweep (played game.now)) }
+    ensures poised_again { Poised (board game.now) game.now.arena.mode table.new risen.new grown.new columns.new }
 {
     let pushed = ways::challenge(
-        g,
-        marks,
-        moves,
+        game,
         acc,
         into,
         onto,
@@ -94,11 +86,9 @@ pub fn again(
         olds,
         last,
     );
-    wipe::all_columns(g, grown, columns);
+    wipe::all_columns(game.arena, grown, columns);
     let answered = duplicators::answer(
-        g,
-        marks,
-        moves,
+        game,
         acc,
         into,
         onto,
@@ -109,6 +99,6 @@ pub fn again(
         grown,
         columns,
     );
-    wipe::all_rows(g, marks, moves, risen, rows, olds);
+    wipe::all_rows(game, risen, rows, olds);
     pushed + answered
 }

@@ -1,25 +1,15 @@
 -- What lift and rest do in an arena, by whether an entry is above T.
-use mathlib.Core.Path.{◌≡◌, sym}
-use mathlib.Core.List.{List}
-use Prim.Native.Nat.{ℕ, ◌≤◌, ◌<◌}
-use lib.ListN.{length}
-use borrow.Author.Tests.{lt-ltb, le-ltb, le-leb, lt-leb}
+use Rattle.std.proofs.Common.{◌≡◌, refl, List, ℕ, ◌≤◌, ◌<◌, le-leb, Bool, true, false, cond, ltb, Some, None}
+use Rattle.std.proofs.lemmas.Bool.{lt-leb}
 use Rattle.games.specs.Game.{Game}
 use Rattle.games.specs.Lift.{lift, rise}
 use Rattle.automaton.specs.declared.Refusal.{Refusal}
-use Rattle.automaton.specs.declared.Refusal.TheVariants.{AboveCeiling, PositionNumber}
-use Rattle.automaton.specs.Answer.{valued, refused, none, fault}
-use Rattle.automaton.specs.First.{first}
-use Rattle.entries.specs.Found.{above, restless}
-use Rattle.table.specs.Calls.{entry_fault, lifted, rest_at, rested}
-
--- what a search for the first entry above T found
-module _ (g : Game) (t : List ℕ) (w : ℕ) (e : w ≡ first (above g.T t) 0 (length t)) where
-  pub above_found : w < length t → entry_fault g t ≡ fault (AboveCeiling w)
-  above_found h = simp (sym e, lt-ltb w (length t) h)
-
-  pub above-none : length t ≤ w → entry_fault g t ≡ none
-  above-none h = simp (sym e, le-ltb w (length t) h)
+use Rattle.automaton.specs.declared.Refusal.TheVariants.{PositionNumber}
+use Rattle.automaton.specs.Answer.{valued, placed, refused, none, fault}
+use Rattle.automaton.specs.First.{first, first_below}
+use Rattle.entries.specs.Found.{restless}
+use Rattle.table.specs.Answers.{found}
+use Rattle.table.specs.Calls.{entry_fault, lifted, rested}
 
 module _ (g : Game) (t : List ℕ) where
   pub lifted-above : (r : Refusal) (v : ℕ) → entry_fault g t ≡ fault r → lifted g t v ≡ record { answer = refused r; left = t }
@@ -38,6 +28,13 @@ module _ (g : Game) (t : List ℕ) where
   unfolding rested
   rested-above r e = simp e
 
-  pub rested-at : (u : ℕ) → entry_fault g t ≡ none → u ≡ first (restless g t) 0 g.P → rested g t ≡ rest_at g.P u
+  pub rested-found : entry_fault g t ≡ none → rested g t ≡ found (first_below (restless g t) g.P)
   unfolding rested
-  rested-at u e d = simp (e, sym d)
+  rested-found e = simp e (go (ltb (first (restless g t) 0 g.P) g.P))
+    where
+      w : ℕ
+      w = first (restless g t) 0 g.P
+
+      go : (b : Bool) → cond b (placed w) (valued 1) ≡ found (cond b (Some w) None)
+      go true = refl
+      go false = refl

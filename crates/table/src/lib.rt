@@ -4,147 +4,87 @@
 
 ghost use Rattle.std.specs.Prelude.{◌≡◌};
 ghost use Rattle.games.specs.Settle.{settle};
-ghost use Rattle.arena.specs.Arena.{game_in, Ready};
-ghost use Rattle.arena.specs.Job.{job_of};
-ghost use Rattle.table.specs.Answers.{of_cleared, of_lifted, of_rested, of_settled};
+ghost use Rattle.automaton.specs.Answer.{answered, done, valued};
+ghost use Rattle.arena.specs.Game.{Playable, played};
+ghost use Rattle.table.specs.Answers.{found, rose};
 ghost use Rattle.table.specs.Calls.{clearing, lifted, lifting, rested, resting, settling};
 
-use arena::{Arena, Opened};
-use automaton::{Automaton, Refusal};
-
-// What `clear` answers.
-#[derive(Clone, Copy)]
-pub enum Cleared {
-    Done,
-    Refused(Refusal),
-}
-
-// What `lift` answers: whether the entry rose.
-#[derive(Clone, Copy)]
-pub enum Lifted {
-    Rose,
-    Stayed,
-    Refused(Refusal),
-}
-
-// What `rest` answers: that the table is at rest, or the lowest position that is not.
-#[derive(Clone, Copy)]
-pub enum Rested {
-    AtRest,
-    Restless(usize),
-    Refused(Refusal),
-}
-
-// What `settle` answers: the number of raises.
-#[derive(Clone, Copy)]
-pub enum Settled {
-    Raised(usize),
-    Refused(Refusal),
-}
+use arena::{Game, Job};
+use asks::index::{Index, KEYS};
+use automaton::Refusal;
 
 // Fills the table with 0. Refusals 1 to 9.
-pub fn clear(a: Automaton, marks: &[u8], moves: &[u8], mode: usize, table: &mut [u32]) -> Cleared
-    ensures result_value { of_cleared result ≡ (clearing (job_of a marks.now moves.now mode) table.old).answer }
-    ensures table_after { table.new ≡ (clearing (job_of a marks.now moves.now mode) table.old).left }
+pub fn clear(job: &Job, table: &mut [u32]) -> Result<(), Refusal>
+    ensures result_value { answered done result ≡ (clearing job.now table.old).answer }
+    ensures table_after { table.new ≡ (clearing job.now table.old).left }
 {
-    let opened = arena::for_table(a, marks, moves, mode, table.len());
-    match opened {
-        Opened::Shut(refusal) => Cleared::Refused(refusal),
-        Opened::Open(g) => {
-            entries::clear(table, g.pairs);
-            Cleared::Done
-        }
-    }
+    let game = Game::for_table(job, table.len())?;
+    entries::clear(table, game.arena.pairs);
+    Ok(())
 }
 
-// Lifts one position: `Rose` if its entry rose. No other entry changes. Refusals 1 to 11.
-pub fn lift(
-    a: Automaton,
-    marks: &[u8],
-    moves: &[u8],
-    mode: usize,
-    table: &mut [u32],
-    position: usize,
-) -> Lifted
-    ensures result_value { of_lifted result ≡ (lifting (job_of a marks.now moves.now mode) table.old position).answer }
-    ensures table_after { table.new ≡ (lifting (job_of a marks.now moves.now mode) table.old position).left }
+// Lifts one position: whether its entry rose. No other entry changes. Refusals 1 to 11.
+pub fn lift(job: &Job, table: &mut [u32], position: usize) -> Result<bool, Refusal>
+    ensures result_value { answered rose result ≡ (lifting job.now table.old position).answer }
+    ensures table_after { table.new ≡ (lifting job.now table.old position).left }
 {
-    let opened = arena::for_table(a, marks, moves, mode, table.len());
-    match opened {
-        Opened::Shut(refusal) => Lifted::Refused(refusal),
-        Opened::Open(g) => lift_in(g, marks, moves, table, position),
-    }
+    let game = Game::for_table(job, table.len())?;
+    lift_in(&game, table, position)
 }
 
 // The lift in an arena: refusals 10 and 11, then the work.
-fn lift_in(g: Arena, marks: &[u8], moves: &[u8], table: &mut [u32], position: usize) -> Lifted
-    requires { Ready g marks.now moves.now table.old }
-    ensures result_value { of_lifted result ≡ (lifted (game_in g marks.now moves.now) table.old position).answer }
-    ensures table_after { table.new ≡ (lifted (game_in g marks.now moves.now) table.old position).left }
+fn lift_in(game: &Game, table: &mut [u32], position: usize) -> Result<bool, Refusal>
+    requires { Playable game.now table.old }
+    ensures result_value { answered rose result ≡ (lifted (played game.now) table.old position).answer }
+    ensures table_after { table.new ≡ (lifted (played game.now) table.old position).left }
 {
-    let above = entries::first_above(&table[..], g.top);
-    if above < table.len() {
-        return Lifted::Refused(Refusal::AboveCeiling(above));
+    if let Some(above) = entries::first_above(&table[..], game.arena.top) {
+        return Err(Refusal::AboveCeiling(above));
     }
     if table.len() <= position {
-        return Lifted::Refused(Refusal::PositionNumber);
+        return Err(Refusal::PositionNumber);
     }
-    let mut begins = [0usize; asks::index::KEYS];
-    asks::index::fill(g.states, g.letters, moves, &mut begins[..]);
-    let rose = entries::lift(g, marks, moves, &begins[..], table, position);
-    if rose == 1 {
-        return Lifted::Rose;
-    }
-    Lifted::Stayed
+    let mut begins = [0usize; KEYS];
+    let index = Index::filled(game, &mut begins[..]);
+    Ok(entries::lift(&index, table, position))
 }
 
-// Whether the table is at rest, or the lowest position that is not. Refusals 1 to 10.
-pub fn rest(a: Automaton, marks: &[u8], moves: &[u8], mode: usize, table: &[u32]) -> Rested
-    ensures { of_rested result ≡ resting (job_of a marks.now moves.now mode) table.now }
+// The lowest position that is not at rest, or none if the table is. Refusals 1 to 10.
+pub fn rest(job: &Job, table: &[u32]) -> Result<Option<usize>, Refusal>
+    ensures { answered found result ≡ resting job.now table.now }
 {
-    let opened = arena::for_table(a, marks, moves, mode, table.len());
-    match opened {
-        Opened::Shut(refusal) => Rested::Refused(refusal),
-        Opened::Open(g) => rest_in(g, marks, moves, table),
-    }
+    let game = Game::for_table(job, table.len())?;
+    rest_in(&game, table)
 }
 
 // The test of rest in an arena: refusal 10, then the work.
-fn rest_in(g: Arena, marks: &[u8], moves: &[u8], table: &[u32]) -> Rested
-    requires { Ready g marks.now moves.now table.now }
-    ensures { of_rested result ≡ rested (game_in g marks.now moves.now) table.now }
+fn rest_in(game: &Game, table: &[u32]) -> Result<Option<usize>, Refusal>
+    requires { Playable game.now table.now }
+    ensures { answered found result ≡ rested (played game.now) table.now }
 {
-    let above = entries::first_above(table, g.top);
-    if above < table.len() {
-        return Rested::Refused(Refusal::AboveCeiling(above));
+    if let Some(above) = entries::first_above(table, game.arena.top) {
+        return Err(Refusal::AboveCeiling(above));
     }
-    let mut begins = [0usize; asks::index::KEYS];
-    asks::index::fill(g.states, g.letters, moves, &mut begins[..]);
-    let restless = entries::first_restless(g, marks, moves, &begins[..], table);
-    if restless < table.len() {
-        return Rested::Restless(restless);
-    }
-    Rested::AtRest
+    let mut begins = [0usize; KEYS];
+    let index = Index::filled(game, &mut begins[..]);
+    Ok(entries::first_restless(&index, table))
 }
 
 // Clears the table and sweeps it until a whole sweep raises nothing: the number of raises. Refusals 1 to 9.
-pub fn settle(a: Automaton, marks: &[u8], moves: &[u8], mode: usize, table: &mut [u32]) -> Settled
-    ensures result_value { of_settled result ≡ (settling (job_of a marks.now moves.now mode) table.old).answer }
-    ensures table_after { table.new ≡ (settling (job_of a marks.now moves.now mode) table.old).left }
+pub fn settle(job: &Job, table: &mut [u32]) -> Result<usize, Refusal>
+    ensures result_value { answered valued result ≡ (settling job.now table.old).answer }
+    ensures table_after { table.new ≡ (settling job.now table.old).left }
 {
-    let opened = arena::for_table(a, marks, moves, mode, table.len());
-    match opened {
-        Opened::Shut(refusal) => Settled::Refused(refusal),
-        Opened::Open(g) => Settled::Raised(settle_in(g, marks, moves, table)),
-    }
+    let game = Game::for_table(job, table.len())?;
+    Ok(settle_in(&game, table))
 }
 
 // The settle in an arena: clear, then the sweeps, half by half.
-fn settle_in(g: Arena, marks: &[u8], moves: &[u8], table: &mut [u32]) -> usize
-    requires { Ready g marks.now moves.now table.old }
-    ensures value { result ≡ (settle (game_in g marks.now moves.now)).raised }
-    ensures table_after { table.new ≡ (settle (game_in g marks.now moves.now)).table }
+fn settle_in(game: &Game, table: &mut [u32]) -> usize
+    requires { Playable game.now table.old }
+    ensures value { result ≡ (settle (played game.now)).raised }
+    ensures table_after { table.new ≡ (settle (played game.now)).table }
 {
-    entries::clear(table, g.pairs);
-    rounds::settle(g, marks, moves, table)
+    entries::clear(table, game.arena.pairs);
+    rounds::settle(game, table)
 }

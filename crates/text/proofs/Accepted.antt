@@ -1,14 +1,7 @@
 -- When `read` accepts: a legible text, and room for its marks and moves.
-use mathlib.Core.Path.{◌≡◌, refl, sym, ◌∙◌}
+use Rattle.std.proofs.Common.{◌≡◌, refl, sym, ◌∙◌, ◌≢◌, ◌↔◌, Bool, true, false, cond, List, [], ◌∷◌, ℕ, suc, ◌/◌, ◌<◌, arith, ne_eqb, ltb-true, ltb-false, eqb, ltb, length, Option}
+use borrow.Author.Tests.{eqb-false}
 use mathlib.Core.Logic.Iff
-use mathlib.Core.Logic.{◌≢◌, ◌↔◌}
-use mathlib.Core.Bool.{Bool, true, false, cond}
-use mathlib.Core.List.{List, [], ◌∷◌}
-use Prim.Native.Nat.{ℕ, suc, ◌/◌, ◌<◌}
-use native.Mathlib.Omega.{arith}
-use borrow.Author.Tests.{eqb-false, ne_eqb, ltb-true, ltb-false}
-use lib.Dec.{eqb, ltb}
-use lib.ListN.{length}
 use Rattle.automaton.specs.declared.Refusal.TheVariants.{LineForm, Marks, OutputLength, ProgramLimits}
 use Rattle.automaton.specs.Answer.{none, fault, fails_at, first_fault}
 use Rattle.automaton.specs.Check.{faults}
@@ -24,7 +17,7 @@ use Rattle.text.specs.Text.{head, mode, accepts, moves, board_in, stray, program
 use Rattle.text.proofs.Effects.{lines-fault, long-fault}
 use Rattle.text.proofs.Sound.{neither, text_formed, text_mode, text_small}
 
-form_line : (ls : List Line) → LineOf (form_fault ls) ((0 < length ls) × ((i : ℕ) → i < length ls → misplaced ls i ≡ false))
+form_line : (ls : List (Option Line)) → LineOf (form_fault ls) ((0 < length ls) × ((i : ℕ) → i < length ls → misplaced ls i ≡ false))
 form_line ls = (λ e. go (eqb (length ls) 0) refl e, λ h. simp (ne_eqb (length ls) 0 (λ z. omega (arith, h.0))) (placed.1 h.1))
   where
     placed : LineOf (fails_at (λ i. LineForm (suc i)) (misplaced ls) (length ls)) ((i : ℕ) → i < length ls → misplaced ls i ≡ false)
@@ -39,7 +32,7 @@ form_line ls = (λ e. go (eqb (length ls) 0) refl e, λ h. simp (ne_eqb (length 
 pub text_line : (text : List ℕ) → LineOf (text_fault text) (Legible text)
 text_line text = (legible, faultless)
   where
-    ls : List Line
+    ls : List (Option Line)
     ls = lines_of text
 
     legible : text_fault text ≡ none → Legible text

@@ -1,5 +1,5 @@
 -- The worked texts hold of the definitions, by computing them.
-use mathlib.Core.Path.{refl}
+use Rattle.std.proofs.Common.{refl}
 use Rattle.automaton.specs.First.{first}
 use Rattle.fields.specs.Numbers.{digits, number_of}
 use Rattle.fields.specs.Bytes.{same}

@@ -1,13 +1,5 @@
 -- A text that nothing is at fault with has at most 2,048 moves: their numbers ascend, and are below 16 · 8 · 16.
-use mathlib.Core.Path.{◌≡◌, refl}
-use mathlib.Core.Logic.{⊎_elim}
-use mathlib.Core.Bool.{Bool, true, false}
-use mathlib.Core.List.{List}
-use Prim.Native.Nat.{ℕ, zero, suc, ◌+◌, ◌*◌, ◌≤◌, ◌<◌}
-use native.Mathlib.Omega.{arith}
-use borrow.Author.Tests.{ltb-true, ltb-false}
-use lib.Dec.{ltb}
-use lib.ListN.{length}
+use Rattle.std.proofs.Common.{◌≡◌, refl, ⊎_elim, Bool, true, false, List, ℕ, zero, suc, ◌+◌, ◌*◌, ◌≤◌, ◌<◌, arith, ltb-true, ltb-false, ltb, length, Option}
 use Rattle.automaton.specs.Answer.{none, first_fault}
 use Rattle.automaton.specs.Board.{from, letter, to, Above}
 use Rattle.lines.specs.declared.line.Line.{Line}
@@ -25,7 +17,7 @@ module _ (x y z x' y' z' : ℕ) (b : y < 8) (c : z < 16) where
       below : x < x' → x * 128 + y * 16 + z < x' * 128 + y' * 16 + z'
       below p = omega arith
 
-module _ (ls : List Line) (fine : first_fault (line_faults ls) ≡ none) where
+module _ (ls : List (Option Line)) (fine : first_fault (line_faults ls) ≡ none) where
   abbrev ms : List ℕ
   ms = moves ls
 

@@ -1,10 +1,7 @@
 -- What one line more marks and lays, and what the lines that are left do.
-use mathlib.Core.Path.{◌≡◌, refl, sym, ap, ◌∙◌}
-use mathlib.Core.List.{List, [], ◌∷◌, ◌++◌, map-append}
-use Prim.Native.Nat.{ℕ, ◌-◌, ◌%◌, ◌≤◌, ◌<◌}
-use native.Mathlib.Omega.{arith}
-use lib.ListN.{length, take, drop, set, replicate, length-set, length-replicate}
-use lib.Seq.{take_at, drop_at}
+use Rattle.std.proofs.Common.{◌≡◌, refl, sym, ap, ◌∙◌, List, [], ◌∷◌, ◌++◌, ℕ, ◌-◌, ◌%◌, ◌≤◌, ◌<◌, arith, length, take, drop, set, replicate, length-set, take_at, drop_at, Option}
+use mathlib.Core.List.{map-append}
+use lib.ListN.{length-replicate}
 use borrow.Rule.Slice.PartMut.{mid_of, post_of, put_mid, Post-is, mid_len}
 use Rattle.fields.specs.Bytes.{laid, stop}
 use Rattle.fields.proofs.Laid.{laid_none, stop-none, then_laid}
@@ -19,7 +16,7 @@ use Rattle.text.specs.Fill.{bytes}
 use Rattle.text.proofs.Steps.{lines-read}
 
 -- a line that is no move lays nothing
-pub unmoved : (at : ℕ) (l : Line) (out : List ℕ) → moves_in l ≡ [] → (at ≡ stop at (bytes (moves_in l)) out) × (out ≡ laid at (bytes (moves_in l)) out)
+pub unmoved : (at : ℕ) (l : Option Line) (out : List ℕ) → moves_in l ≡ [] → (at ≡ stop at (bytes (moves_in l)) out) × (out ≡ laid at (bytes (moves_in l)) out)
 unmoved at l out e = (
   sym (ap (λ (x : List ℕ). stop at (bytes x) out) e ∙ stop-none at out),
   sym (ap (λ (x : List ℕ). laid at (bytes x) out) e ∙ laid_none at out),
@@ -41,7 +38,7 @@ module _ (text : List ℕ) (at : ℕ) (read : Read) (e : read ≡ read_at text a
   marked-on marks marks' m =
       let rest = lines_of (drop read.past text) in
       ap (marked (accepts rest)) m ∙ marked_more (accepts_in read.line) (accepts rest) marks ∙
-      ap (λ (ls : List Line). marked (accepts ls) marks) (sym (lines-read text at read e h))
+      ap (λ (ls : List (Option Line)). marked (accepts ls) marks) (sym (lines-read text at read e h))
 
   pub laid_on : (to to' : ℕ) (out out' : List ℕ) → to' ≡ stop to (bytes (moves_in read.line)) out → out' ≡ laid to (bytes (moves_in read.line)) out
       → laid to' (bytes (moves (lines_of (drop read.past text)))) out' ≡ laid to (bytes (moves (lines_of (drop at text)))) out
@@ -49,14 +46,14 @@ module _ (text : List ℕ) (at : ℕ) (read : Read) (e : read ≡ read_at text a
       let rest = lines_of (drop read.past text) in
       then_laid to (bytes (moves_in read.line)) (bytes (moves rest)) out to' out' p n ∙
       ap (λ (x : List ℕ). laid to x out) (sym (map-append (λ (x : ℕ). x % 256) (moves_in read.line) (moves rest))) ∙
-      ap (λ (ls : List Line). laid to (bytes (moves ls)) out) (sym (lines-read text at read e h))
+      ap (λ (ls : List (Option Line)). laid to (bytes (moves ls)) out) (sym (lines-read text at read e h))
 
 module _ (text : List ℕ) (at : ℕ) (h : length text ≤ at) where
   pub marked-end : (marks : List ℕ) → marks ≡ marked (accepts (lines_of (drop at text))) marks
-  marked-end marks = sym (ap (λ (ls : List Line). marked (accepts ls) marks) (lines_end text at h))
+  marked-end marks = sym (ap (λ (ls : List (Option Line)). marked (accepts ls) marks) (lines_end text at h))
 
   pub laid_end : (to : ℕ) (out : List ℕ) → out ≡ laid to (bytes (moves (lines_of (drop at text)))) out
-  laid_end to out = sym (ap (λ (ls : List Line). laid to (bytes (moves ls)) out) (lines_end text at h) ∙ laid_none to out)
+  laid_end to out = sym (ap (λ (ls : List (Option Line)). laid to (bytes (moves ls)) out) (lines_end text at h) ∙ laid_none to out)
 
 -- ---- the marks of all states, at the front of their buffer: the front cleared first, then marked
 

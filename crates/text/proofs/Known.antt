@@ -1,24 +1,33 @@
 -- What the survey knows at the end is what the definitions say of all lines.
-use mathlib.Core.Path.{◌≡◌, refl, sym, ap, ◌∙◌}
-use mathlib.Core.Bool.{Bool, true, false, ◌&&◌, ◌||◌, not, not-not}
-use mathlib.Core.List.{List, [], ◌∷◌, ◌++◌, append_assoc, append-nil}
-use Prim.Native.Nat.{ℕ, zero, suc, ◌+◌, ◌-◌, ◌*◌, ◌/◌, ◌%◌, ◌<◌}
-use native.Mathlib.Omega.{arith}
-use borrow.Author.Tests.{ne_eqb}
-use lib.Dec.{eqb, ltb, leb}
-use lib.ListN.{length, get_or, length-append, get_or-append}
-use lib.Seq.{get_or_at, get_or-append-add}
+use Rattle.std.proofs.Common.{◌≤◌, ◌≡◌, refl, sym, ap, ◌∙◌, Bool, true, false, ◌&&◌, ◌||◌, not, List, [], ◌∷◌, ◌++◌, append_assoc, append-nil, ℕ, zero, suc, ◌+◌, ◌*◌, ◌/◌, ◌%◌, ◌<◌, arith, ne_eqb, eq-eqb, lt-ltb, le-ltb, Option, Some, None, cond, eqb, ltb, leb, length, get_or, length-append, get_or-append-add}
+use mathlib.Core.Bool.{not-not}
+use lib.ListN.{get_or-append}
+use lib.Seq.{get_or_at}
+use Rattle.fields.proofs.Tests.{by_test}
 use Rattle.automaton.specs.declared.Automaton.{Automaton}
-use Rattle.automaton.specs.Board.{above, outside, unsorted}
-use Rattle.automaton.specs.First.{first}
-use Rattle.automaton.proofs.First.{first_more, first-same}
+use Rattle.automaton.specs.Board.{outside, unsorted}
+use Rattle.automaton.specs.First.{first, first_below}
+use Rattle.automaton.proofs.First.{first_more, first-lowest, first-same}
 use Rattle.automaton.proofs.Sound.{leb_not}
 use Rattle.lines.specs.declared.line.Line.{Line}
 use Rattle.lines.specs.declared.line.Line.TheVariants as line
 use Rattle.text.specs.declared.survey.Survey.{Survey}
-use Rattle.text.specs.Survey.{reached, accepted_by, moved_by}
+use Rattle.text.specs.declared.survey.Step.{Step}
+use Rattle.text.specs.Survey.{at_fault, ascends, rises, within, accepted_by, moved_by}
 use Rattle.text.specs.Text.{mode_after, accepts, moves, stray}
 use Rattle.text.proofs.Form.{taken_all, Following}
+
+-- the last of so many states named, and of so many moves
+abbrev pub last_named : (count : ℕ) → (named : List ℕ) → Option ℕ
+last_named zero qs = None
+last_named (suc c) qs = Some (get_or qs c 0)
+
+abbrev pub step_at : (ms : List ℕ) → ℕ → Step
+step_at ms i = record { from = get_or ms (i * 3) 0; letter = get_or ms (i * 3 + 1) 0; to = get_or ms (i * 3 + 2) 0 }
+
+abbrev pub last_step : (count : ℕ) → (ms : List ℕ) → Option Step
+last_step zero ms = None
+last_step (suc c) ms = Some (step_at ms c)
 
 -- the survey of an automaton line, a mode, the states named and the numbers of the moves
 abbrev pub known : Automaton → (mode : ℕ) → (named moves : List ℕ) → Survey
@@ -26,29 +35,43 @@ known a m qs ms =
     let n = a.states in
     let c = length ms / 3 in
     record {
-      states = n;
-      letters = a.letters;
-      start = a.start;
+      automaton = a;
       mode = m;
       accepts = length qs;
-      last = get_or qs (length qs - 1) 0;
-      strayed = first (stray n qs) 0 (length qs);
+      last_accept = last_named (length qs) qs;
+      strayed = first_below (stray n qs) (length qs);
       moves = c;
-      from = get_or ms (length ms - 3) 0;
-      letter = get_or ms (length ms - 2) 0;
-      to = get_or ms (length ms - 1) 0;
-      outside = first (outside n a.letters ms) 0 c;
-      unsorted = first (unsorted ms) 0 c;
+      last_move = last_step c ms;
+      outside = first_below (outside n a.letters ms) c;
+      unsorted = first_below (unsorted ms) c;
     }
 
 -- ---- a property of one thing more
 
 -- the first at fault among one thing more, when the property of the others stays
-reached-first : (p p' : ℕ → Bool) (c : ℕ) (fine : Bool) → ((i : ℕ) → i < c → p i ≡ p' i) → fine ≡ not (p' c) → reached (first p 0 c) c fine ≡ first p' 0 (suc c)
-reached-first p p' c fine same f =
-    let z : 0 + c ≡ c = omega arith in
-    let e : first p 0 c ≡ first p' 0 c = first-same p p' 0 c (λ i l k. same i (omega arith)) in
-    simp (e, f) (sym (first_more p' 0 c ∙ simp z))
+fault-first : (p p' : ℕ → Bool) (c : ℕ) (fine : Bool) → ((i : ℕ) → i < c → p i ≡ p' i) → fine ≡ not (p' c) → at_fault (first_below p c) c fine ≡ first_below p' (suc c)
+fault-first p p' c fine same f = by_test w c (ltb w c) refl
+    (λ (inside : w < c).
+    let n : eqb w c ≡ false = ne_eqb w c (λ x. omega arith) in
+    let more : first p' 0 (suc c) ≡ w = first_more p' 0 c ∙ simp (z, n) in
+    simp (e, more, lt-ltb w c inside, lt-ltb w (suc c) (omega arith)))
+    (λ (past : c ≤ w).
+    let here : w ≡ c = omega (arith, (first-lowest p' 0 c).most) in
+    let more : first p' 0 (suc c) ≡ cond fine (suc c) c = first_more p' 0 c ∙ simp (z, here, eq-eqb c c refl, f) in
+    simp (e, le-ltb w c past, more) (next fine))
+  where
+    w : ℕ
+    w = first p' 0 c
+
+    z : 0 + c ≡ c
+    z = omega arith
+
+    e : first p 0 c ≡ w
+    e = first-same p p' 0 c (λ i l k. same i (omega arith))
+
+    next : (t : Bool) → cond t None (Some c) ≡ cond (ltb (cond t (suc c) c) (suc c)) (Some (cond t (suc c) c)) None
+    next true = simp (le-ltb (suc c) (suc c) (omega arith))
+    next false = simp (lt-ltb c (suc c) (omega arith))
 
 not_leb : (a b : ℕ) → not (leb a b) ≡ ltb b a
 not_leb a b = ap not (leb_not a b) ∙ not-not (ltb b a)
@@ -67,22 +90,19 @@ module _ (n : ℕ) (qs : List ℕ) (q : ℕ) where
   seam : (c : ℕ) → length qs ≡ c → get_or (qs ++ (q ∷ [])) c 0 ≡ q
   seam c e = get_or_at qs q [] 0 c e
 
-  stray-here : (c : ℕ) → length qs ≡ c → ((eqb c 0 || ltb (get_or qs (c - 1) 0) q) && ltb q n) ≡ not (stray n (qs ++ (q ∷ [])) c)
+  stray-here : (c : ℕ) → length qs ≡ c → (ascends (last_named c qs) q && ltb q n) ≡ not (stray n (qs ++ (q ∷ [])) c)
   stray-here zero e = simp (seam 0 e) (sym (not_leb n q))
   stray-here (suc c) e =
       let b : c < length qs = omega arith in
-      let d : suc c - 1 ≡ c = omega arith in
-      let z : eqb (suc c) 0 ≡ false = ne_eqb (suc c) 0 (λ x. omega arith) in
-      simp (seam (suc c) e, get_or-append qs (q ∷ []) 0 c b, d, z, not-or, not_leb)
+      simp (seam (suc c) e, get_or-append qs (q ∷ []) 0 c b, not-or, not_leb)
 
 accepted-known : (a : Automaton) (m : ℕ) (qs ms : List ℕ) (q : ℕ) → accepted_by (known a m qs ms) q ≡ known a m (qs ++ (q ∷ [])) ms
 accepted-known a m qs ms q =
     let n = a.states in
     let long : length (qs ++ (q ∷ [])) ≡ suc (length qs) = omega (arith, length-append qs (q ∷ [])) in
-    let back : suc (length qs) - 1 ≡ length qs = omega arith in
-    let last : get_or (qs ++ (q ∷ [])) (length (qs ++ (q ∷ [])) - 1) 0 ≡ q = simp (long, back) (seam n qs q (length qs) refl) in
-    let first-stray : reached (first (stray n qs) 0 (length qs)) (length qs) ((eqb (length qs) 0 || ltb (get_or qs (length qs - 1) 0) q) && ltb q n) ≡ first (stray n (qs ++ (q ∷ []))) 0 (length (qs ++ (q ∷ []))) =
-    reached-first (stray n qs) (stray n (qs ++ (q ∷ []))) (length qs) _ (stray-same n qs q) (stray-here n qs q (length qs) refl) ∙ ap (first (stray n (qs ++ (q ∷ []))) 0) (sym long) in
+    let last : last_named (length (qs ++ (q ∷ []))) (qs ++ (q ∷ [])) ≡ Some q = simp (long, seam n qs q (length qs) refl) in
+    let first-stray : at_fault (first_below (stray n qs) (length qs)) (length qs) (ascends (last_named (length qs) qs) q && ltb q n) ≡ first_below (stray n (qs ++ (q ∷ []))) (length (qs ++ (q ∷ []))) =
+    fault-first (stray n qs) (stray n (qs ++ (q ∷ []))) (length qs) _ (stray-same n qs q) (stray-here n qs q (length qs) refl) ∙ ap (first_below (stray n (qs ++ (q ∷ [])))) (sym long) in
     cc
 
 -- ---- one move line more
@@ -113,47 +133,45 @@ module _ (ms : List ℕ) (p a q : ℕ) (whole : length ms % 3 ≡ 0) where
   inside-here n k c e =
       simp (new 0 (c * 3) (omega arith), new 1 (c * 3 + 1) (omega arith), new 2 (c * 3 + 2) (omega arith)) (sym (not-not (ltb p n && ltb a k && ltb q n)))
 
-  ordered_here : (c : ℕ) → c ≡ length ms / 3
-      → (eqb c 0 || above (get_or ms (length ms - 3) 0) (get_or ms (length ms - 2) 0) (get_or ms (length ms - 1) 0) p a q) ≡ not (unsorted longer c)
+  ordered_here : (c : ℕ) → c ≡ length ms / 3 → rises (last_step c ms) (record { from = p; letter = a; to = q }) ≡ not (unsorted longer c)
   ordered_here zero e = refl
   ordered_here (suc c) e =
-      let z : eqb (suc c) 0 ≡ false = ne_eqb (suc c) 0 (λ x. omega arith) in
-      let x : length ms - 3 ≡ c * 3 = omega arith in
-      let y : length ms - 2 ≡ c * 3 + 1 = omega arith in
-      let w : length ms - 1 ≡ c * 3 + 2 = omega arith in
-      simp (z, x, y, w, old (c * 3) (omega arith), old (c * 3 + 1) (omega arith), old (c * 3 + 2) (omega arith), new 0 (suc c * 3) (omega arith), new 1 (suc c * 3 + 1) (omega arith), new 2 (suc c * 3 + 2) (omega arith)) (sym (not-not _))
+      simp (old (c * 3) (omega arith), old (c * 3 + 1) (omega arith), old (c * 3 + 2) (omega arith), new 0 (suc c * 3) (omega arith), new 1 (suc c * 3 + 1) (omega arith), new 2 (suc c * 3 + 2) (omega arith)) (sym (not-not _))
 
-moved_known : (a : Automaton) (m : ℕ) (qs ms : List ℕ) (p x q : ℕ) → length ms % 3 ≡ 0 → moved_by (known a m qs ms) p x q ≡ known a m qs (ms ++ (p ∷ x ∷ q ∷ []))
+moved_known : (a : Automaton) (m : ℕ) (qs ms : List ℕ) (p x q : ℕ) → length ms % 3 ≡ 0
+    → moved_by (known a m qs ms) (record { from = p; letter = x; to = q }) ≡ known a m qs (ms ++ (p ∷ x ∷ q ∷ []))
 moved_known a m qs ms p x q w =
     let n = a.states in
     let k = a.letters in
     let c = length ms / 3 in
     let l = ms ++ (p ∷ x ∷ q ∷ []) in
+    let t : Step = record { from = p; letter = x; to = q } in
     let more : length l / 3 ≡ suc c = omega (arith, long ms p x q w) in
-    let from : get_or l (length l - 3) 0 ≡ p = new ms p x q w 0 (length l - 3) (omega (arith, long ms p x q w)) in
-    let letter : get_or l (length l - 2) 0 ≡ x = new ms p x q w 1 (length l - 2) (omega (arith, long ms p x q w)) in
-    let to : get_or l (length l - 1) 0 ≡ q = new ms p x q w 2 (length l - 1) (omega (arith, long ms p x q w)) in
-    let first-outside : reached (first (outside n k ms) 0 c) c (ltb p n && ltb x k && ltb q n) ≡ first (outside n k l) 0 (length l / 3) =
-    reached-first (outside n k ms) (outside n k l) c _ (inside ms p x q w n k) (inside-here ms p x q w n k c refl) ∙ ap (first (outside n k l) 0) (sym more) in
-    let first-unsorted : reached (first (unsorted ms) 0 c) c (eqb c 0 || above (get_or ms (length ms - 3) 0) (get_or ms (length ms - 2) 0) (get_or ms (length ms - 1) 0) p x q) ≡ first (unsorted l) 0 (length l / 3) =
-    reached-first (unsorted ms) (unsorted l) c _ (ordered ms p x q w) (ordered_here ms p x q w c refl) ∙ ap (first (unsorted l) 0) (sym more) in
+    let from : get_or l (c * 3) 0 ≡ p = new ms p x q w 0 (c * 3) (omega arith) in
+    let letter : get_or l (c * 3 + 1) 0 ≡ x = new ms p x q w 1 (c * 3 + 1) (omega arith) in
+    let to : get_or l (c * 3 + 2) 0 ≡ q = new ms p x q w 2 (c * 3 + 2) (omega arith) in
+    let last : last_step (length l / 3) l ≡ Some t = simp (more, from, letter, to) in
+    let first-outside : at_fault (first_below (outside n k ms) c) c (within t a) ≡ first_below (outside n k l) (length l / 3) =
+    fault-first (outside n k ms) (outside n k l) c _ (inside ms p x q w n k) (inside-here ms p x q w n k c refl) ∙ ap (first_below (outside n k l)) (sym more) in
+    let first-unsorted : at_fault (first_below (unsorted ms) c) c (rises (last_step c ms) t) ≡ first_below (unsorted l) (length l / 3) =
+    fault-first (unsorted ms) (unsorted l) c _ (ordered ms p x q w) (ordered_here ms p x q w c refl) ∙ ap (first_below (unsorted l)) (sym more) in
     cc
 
 -- ---- all lines
 
-pub all_known : (a : Automaton) (m : ℕ) (qs ms : List ℕ) (ls : List Line) → length ms % 3 ≡ 0 → Following ls
+pub all_known : (a : Automaton) (m : ℕ) (qs ms : List ℕ) (ls : List (Option Line)) → length ms % 3 ≡ 0 → Following ls
     → taken_all (known a m qs ms) ls ≡ known a (mode_after m ls) (qs ++ accepts ls) (ms ++ moves ls)
 all_known a m qs ms [] w f = let x : qs ++ [] ≡ qs = append-nil qs in let y : ms ++ [] ≡ ms = append-nil ms in simp (x, y)
-all_known a m qs ms (line.Automaton n k s ∷ ls) w f = absurd (omega (arith, f.0))
-all_known a m qs ms (line.Mode m' ∷ ls) w f = all_known a m' qs ms ls w f.1
-all_known a m qs ms (line.Accept q ∷ ls) w f =
+all_known a m qs ms (Some (line.Automaton n k s) ∷ ls) w f = absurd (omega (arith, f.0))
+all_known a m qs ms (Some (line.Mode m') ∷ ls) w f = all_known a m' qs ms ls w f.1
+all_known a m qs ms (Some (line.Accept q) ∷ ls) w f =
     ap (λ (s : Survey). taken_all s ls) (accepted-known a m qs ms q) ∙
     all_known a m (qs ++ (q ∷ [])) ms ls w f.1 ∙
     ap (λ (x : List ℕ). known a (mode_after m ls) x (ms ++ moves ls)) (append_assoc qs (q ∷ []) (accepts ls))
-all_known a m qs ms (line.Move p x q ∷ ls) w f =
+all_known a m qs ms (Some (line.Move p x q) ∷ ls) w f =
     let three = p ∷ x ∷ q ∷ [] in
     let w' : length (ms ++ three) % 3 ≡ 0 = omega (arith, length-append ms three) in
     ap (λ (s : Survey). taken_all s ls) (moved_known a m qs ms p x q w) ∙
     all_known a m qs (ms ++ three) ls w' f.1 ∙
     ap (λ (y : List ℕ). known a (mode_after m ls) (qs ++ accepts ls) y) (append_assoc ms three (moves ls))
-all_known a m qs ms (line.Wrong ∷ ls) w f = absurd (omega (arith, f.0))
+all_known a m qs ms (None ∷ ls) w f = absurd f

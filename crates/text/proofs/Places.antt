@@ -1,11 +1,5 @@
 -- The place of a text's refusal is one of its lines: it is small.
-use mathlib.Core.Path.{◌≡◌, refl, sym, ap, ◌∙◌}
-use mathlib.Core.Bool.{Bool, true, false, ◌||◌, cond}
-use mathlib.Core.List.{List, [], ◌∷◌}
-use Prim.Native.Nat.{ℕ, zero, suc, ◌+◌, ◌*◌, ◌/◌, ◌≤◌, ◌<◌}
-use native.Mathlib.Omega.{arith}
-use lib.Dec.{eqb, ltb, leb}
-use lib.ListN.{length, drop}
+use Rattle.std.proofs.Common.{◌≡◌, refl, sym, ap, ◌∙◌, Bool, true, false, ◌||◌, cond, List, [], ◌∷◌, ℕ, zero, suc, ◌+◌, ◌*◌, ◌/◌, ◌≤◌, ◌<◌, arith, eqb, ltb, leb, length, drop, Option, Some, None}
 use Rattle.automaton.specs.declared.Refusal.{Refusal}
 use Rattle.automaton.specs.declared.Refusal.TheVariants.{States, Letters, Marks, Start, Outside, Unsorted, ModeNumber, LineForm, ProgramLimits, TooLong}
 use Rattle.automaton.specs.Answer.{place_of, fault, fails_at, first_fault}
@@ -39,25 +33,25 @@ lines_from (suc f) s at h =
 lines-few : (s : List ℕ) → length (lines_of s) ≤ length s
 lines-few s = lines_from (length s) s 0 (omega arith)
 
-accepts-counted : (ls : List Line) → length (accepts ls) ≤ length ls
+accepts-counted : (ls : List (Option Line)) → length (accepts ls) ≤ length ls
 accepts-counted [] = omega arith
-accepts-counted (line.Automaton n k q ∷ ls) = omega (arith, accepts-counted ls)
-accepts-counted (line.Mode m ∷ ls) = omega (arith, accepts-counted ls)
-accepts-counted (line.Accept q ∷ ls) = omega (arith, accepts-counted ls)
-accepts-counted (line.Move p a q ∷ ls) = omega (arith, accepts-counted ls)
-accepts-counted (line.Wrong ∷ ls) = omega (arith, accepts-counted ls)
+accepts-counted (Some (line.Automaton n k q) ∷ ls) = omega (arith, accepts-counted ls)
+accepts-counted (Some (line.Mode m) ∷ ls) = omega (arith, accepts-counted ls)
+accepts-counted (Some (line.Accept q) ∷ ls) = omega (arith, accepts-counted ls)
+accepts-counted (Some (line.Move p a q) ∷ ls) = omega (arith, accepts-counted ls)
+accepts-counted (None ∷ ls) = omega (arith, accepts-counted ls)
 
-moves-counted : (ls : List Line) → length (moves ls) ≤ length ls * 3
+moves-counted : (ls : List (Option Line)) → length (moves ls) ≤ length ls * 3
 moves-counted [] = omega arith
-moves-counted (line.Automaton n k q ∷ ls) = omega (arith, moves-counted ls)
-moves-counted (line.Mode m ∷ ls) = omega (arith, moves-counted ls)
-moves-counted (line.Accept q ∷ ls) = omega (arith, moves-counted ls)
-moves-counted (line.Move p a q ∷ ls) = omega (arith, moves-counted ls)
-moves-counted (line.Wrong ∷ ls) = omega (arith, moves-counted ls)
+moves-counted (Some (line.Automaton n k q) ∷ ls) = omega (arith, moves-counted ls)
+moves-counted (Some (line.Mode m) ∷ ls) = omega (arith, moves-counted ls)
+moves-counted (Some (line.Accept q) ∷ ls) = omega (arith, moves-counted ls)
+moves-counted (Some (line.Move p a q) ∷ ls) = omega (arith, moves-counted ls)
+moves-counted (None ∷ ls) = omega (arith, moves-counted ls)
 
 -- ---- the places
 
-form_to : (ls : List Line) (k : ℕ) → length ls < k → UpTo place_of k (form_fault ls)
+form_to : (ls : List (Option Line)) (k : ℕ) → length ls < k → UpTo place_of k (form_fault ls)
 form_to ls k h = either (eqb (length ls) 0)
   where
     placed : UpTo place_of k (fails_at (λ i. LineForm (suc i)) (misplaced ls) (length ls))
@@ -67,7 +61,7 @@ form_to ls k h = either (eqb (length ls) 0)
     either true = fault-to place_of k (LineForm 1) (omega arith)
     either false = placed
 
-lines-to : (ls : List Line) (k : ℕ) → length ls < k → UpTo place_of k (first_fault (line_faults ls))
+lines-to : (ls : List (Option Line)) (k : ℕ) → length ls < k → UpTo place_of k (first_fault (line_faults ls))
 lines-to ls k h =
     let a = head ls in
     table_to place_of k (line_faults ls) (

@@ -1,15 +1,6 @@
 -- A text that nothing is at fault with gives a well-formed automaton within the limits of the programs, and its moves are bytes.
-use mathlib.Core.Path.{◌≡◌, refl, ◌∙◌}
-use mathlib.Core.Logic.{◌↔◌}
-use mathlib.Core.Bool.{Bool, true, false, ◌||◌, not, true≢false}
-use mathlib.Core.List.{List, [], ◌∷◌}
-use Prim.Native.Nat.{ℕ, zero, suc, ◌+◌, ◌*◌, ◌/◌, ◌%◌, ◌≤◌, ◌<◌}
-use native.Mathlib.Nat.{mod-eq_of_lt}
-use native.Mathlib.Omega.{arith}
-use borrow.Author.Tests.{ltb-false, le-ltb, eq-eqb}
-use lib.Dec.{eqb, ltb}
-use lib.ListN.{length, get_or, set, replicate, length-map, length-replicate, get_or-map}
-use lib.Seq.{ext_get_or}
+use Rattle.std.proofs.Common.{◌≡◌, refl, ◌∙◌, ◌↔◌, Bool, true, false, ◌||◌, not, true≢false, List, [], ◌∷◌, ℕ, zero, suc, ◌+◌, ◌*◌, ◌/◌, ◌%◌, ◌≤◌, ◌<◌, mod-eq_of_lt, arith, ltb-false, le-ltb, eq-eqb, eqb, ltb, length, get_or, set, replicate, ext_get_or, Option, Some, None}
+use lib.ListN.{length-map, length-replicate, get_or-map}
 use Rattle.automaton.specs.declared.Refusal.TheVariants.{Marks, Bytes, ProgramLimits}
 use Rattle.automaton.specs.Answer.{none, fails, fails_at, first_fault}
 use Rattle.automaton.specs.Board.{Formed}
@@ -24,7 +15,7 @@ use Rattle.text.specs.Text.{head, mode, accepts, moves, marked, marks, board_in,
 
 -- ---- the marks
 
-pub marks_length : (n : ℕ) (ls : List Line) → length (marks n ls) ≡ n
+pub marks_length : (n : ℕ) (ls : List (Option Line)) → length (marks n ls) ≡ n
 marks_length n ls = marked_length (accepts ls) (replicate n 0) ∙ length-replicate n 0
 
 set_low : (ms : List ℕ) (q : ℕ) → ((i : ℕ) → get_or ms i 0 ≤ 1) → (i : ℕ) → get_or (set ms q 1) i 0 ≤ 1
@@ -43,7 +34,7 @@ zeros-low zero i = omega arith
 zeros-low (suc n) zero = omega arith
 zeros-low (suc n) (suc i) = zeros-low n i
 
-marks_fine : (ls : List Line) → marks_fault (board_in ls) ≡ none
+marks_fine : (ls : List (Option Line)) → marks_fault (board_in ls) ≡ none
 marks_fine ls =
     let n = (head ls).states in
     let long : eqb (length (marks n ls)) n ≡ true = eq-eqb (length (marks n ls)) n (marks_length n ls) in
@@ -54,15 +45,15 @@ marks_fine ls =
 
 -- ---- the moves
 
-pub moves-three : (ls : List Line) → length (moves ls) % 3 ≡ 0
+pub moves-three : (ls : List (Option Line)) → length (moves ls) % 3 ≡ 0
 moves-three [] = refl
-moves-three (line.Automaton n k q ∷ ls) = moves-three ls
-moves-three (line.Mode m ∷ ls) = moves-three ls
-moves-three (line.Accept q ∷ ls) = moves-three ls
-moves-three (line.Move p a q ∷ ls) = omega (arith, moves-three ls)
-moves-three (line.Wrong ∷ ls) = moves-three ls
+moves-three (Some (line.Automaton n k q) ∷ ls) = moves-three ls
+moves-three (Some (line.Mode m) ∷ ls) = moves-three ls
+moves-three (Some (line.Accept q) ∷ ls) = moves-three ls
+moves-three (Some (line.Move p a q) ∷ ls) = omega (arith, moves-three ls)
+moves-three (None ∷ ls) = moves-three ls
 
-bytes_fine : (ls : List Line) → fails (not (eqb (length (moves ls) % 3) 0)) Bytes ≡ none
+bytes_fine : (ls : List (Option Line)) → fails (not (eqb (length (moves ls) % 3) 0)) Bytes ≡ none
 bytes_fine ls = simp (moves-three ls)
 
 -- ---- the text
@@ -75,7 +66,7 @@ neither a b x y = (λ e. go (ltb a b) refl e, λ h. simp (le-ltb a b h.0, le-ltb
     go true d e = absurd (true≢false e)
     go false d e = (ltb-false a b d, ltb-false x y e)
 
-module _ (ls : List Line) (fine : first_fault (line_faults ls) ≡ none) where
+module _ (ls : List (Option Line)) (fine : first_fault (line_faults ls) ≡ none) where
   all : AllNone (line_faults ls)
   all = (all_none (line_faults ls)).0 fine
 

@@ -1,10 +1,10 @@
--- The number, place and values of each case of the answer of `read`. A refusal's are those of `automaton`.
+-- The number, place and values of what `read` gives.
 use Rattle.std.specs.Prelude.{[], ◌∷◌}
-use Rattle.automaton.specs.Answer.{Answer, refused}
+use Rattle.automaton.specs.Answer.{Answer}
 use Rattle.text.specs.declared.Reading.{Reading}
-use Rattle.text.specs.declared.Reading.TheVariants.{Held, Refused}
 
 -- values: states, letters, start, the number of the mode, the number of moves
 abbrev pub of_reading : Reading → Answer
-of_reading (Held a mode count) = record { number = 0; place = 0; values = a.states ∷ a.letters ∷ a.start ∷ mode ∷ count ∷ [] }
-of_reading (Refused r) = refused r
+of_reading r =
+    let a = r.automaton in
+    record { number = 0; place = 0; values = a.states ∷ a.letters ∷ a.start ∷ r.mode ∷ r.moves ∷ [] }

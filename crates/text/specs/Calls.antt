@@ -1,11 +1,10 @@
 -- `read`, for every text and every two buffers: what it answers, and the bytes it leaves.
-use Rattle.std.specs.Prelude.{◌||◌, List, [], ◌∷◌, ◌++◌, ℕ, ◌/◌, ◌≤◌, ltb, length, drop}
+use Rattle.std.specs.Prelude.{◌||◌, List, [], ◌∷◌, ◌++◌, ℕ, ◌/◌, ◌≤◌, ltb, length, drop, Option}
 use Rattle.automaton.specs.declared.Refusal.TheVariants.{OutputLength}
 use Rattle.automaton.specs.Answer.{Answer, Fault, fails, first_fault}
 use Rattle.automaton.specs.Effect.{Effect, does}
 use Rattle.lines.specs.declared.line.Line.{Line}
 use Rattle.lines.specs.Lines.{lines_of}
-use Rattle.text.specs.declared.Reading.TheVariants.{Held}
 use Rattle.text.specs.Answers.{of_reading}
 use Rattle.text.specs.Text.{head, mode, marks as marks_of, moves as moves_of, text_fault}
 
@@ -18,7 +17,7 @@ abbrev pub lent_of : (marks moves : List ℕ) → Lent
 lent_of marks moves = record { marks = marks; moves = moves }
 
 -- 16: "an output length is wrong": the buffers must hold a mark a state and three bytes a move, and may be longer
-abbrev pub short_fault : List Line → Lent → Fault
+abbrev pub short_fault : List (Option Line) → Lent → Fault
 short_fault ls x = fails (ltb (length x.marks) (head ls).states || ltb (length x.moves / 3) (length (moves_of ls) / 3)) OutputLength
 
 abbrev pub Roomy : (text : List ℕ) → Lent → Type 0
@@ -29,8 +28,8 @@ abbrev pub before : (bytes buffer : List ℕ) → List ℕ
 before bytes buffer = bytes ++ drop (length bytes) buffer
 
 -- the answer of an accepted call
-abbrev pub held : List Line → Answer
-held ls = of_reading (Held (head ls) (mode ls) (length (moves_of ls) / 3))
+abbrev pub held : List (Option Line) → Answer
+held ls = of_reading (record { automaton = head ls; mode = mode ls; moves = length (moves_of ls) / 3 })
 
 -- what `read` answers and leaves
 unfoldable pub reading : (text : List ℕ) → Lent → Effect Lent

@@ -1,17 +1,18 @@
 -- What one line more adds to what is known of a text, and what is known at its end.
 -- Functions below the call promise it to each other; no public promise cites it.
-use Rattle.std.specs.Prelude.{Bool, ◌&&◌, ◌||◌, cond, List, [], ◌∷◌, ℕ, suc, ◌≤◌, eqb, ltb, leb}
-use Rattle.automaton.specs.declared.Refusal.TheVariants.{Marks, Start, Outside, Unsorted}
-use Rattle.automaton.specs.Answer.{Fault, fails}
+use Rattle.std.specs.Prelude.{Bool, true, ◌&&◌, cond, List, [], ◌∷◌, ℕ, suc, ◌≤◌, ltb, leb, Option, Some, None, Result, Ok, Err}
+use Rattle.automaton.specs.declared.Automaton.{Automaton}
+use Rattle.automaton.specs.declared.Refusal.{Refusal}
+use Rattle.automaton.specs.declared.Refusal.TheVariants.{Marks, Start, Outside, Unsorted, LineForm}
+use Rattle.automaton.specs.Answer.{Fault, none, fault, fails}
 use Rattle.automaton.specs.Board.{above}
 use Rattle.automaton.specs.Check.{states_fault, letters_fault, mode_fault}
 use Rattle.lines.specs.declared.line.Line.{Line}
 use Rattle.lines.specs.declared.line.Line.TheVariants as line
+use Rattle.text.specs.declared.survey.Step.{Step}
 use Rattle.text.specs.declared.survey.Survey.{Survey}
-use Rattle.text.specs.declared.survey.Surveyed.{Surveyed}
-use Rattle.text.specs.declared.survey.Surveyed.TheVariants.{Whole, Broken}
-use Rattle.text.specs.Order.{order, stands}
-use Rattle.text.specs.Text.{limits_fault}
+use Rattle.text.specs.Order.{stands}
+use Rattle.text.specs.Text.{unsaid, limits_fault}
 
 -- no text within the limit of bytes has more lines than this
 abbrev pub most : ℕ
@@ -21,122 +22,86 @@ most = 65535
 abbrev pub Few : Survey → (c : ℕ) → Type 0
 Few s c = (s.accepts ≤ c) × (s.moves ≤ c)
 
--- how many lines come before the first at fault, when one more is fine or not
-abbrev pub reached : (first count : ℕ) → (fine : Bool) → ℕ
-reached first count fine = cond (eqb first count && fine) (suc count) first
+-- the number of the first at fault, when the next one, of this number, is fine or not
+abbrev pub at_fault : (first : Option ℕ) → (number : ℕ) → (fine : Bool) → Option ℕ
+at_fault (Some i) number fine = Some i
+at_fault None number fine = cond fine None (Some number)
+
+-- is a state above that of the accept line before, and a move above the one before? The first has none before it.
+abbrev pub ascends : (before : Option ℕ) → (state : ℕ) → Bool
+ascends None q = true
+ascends (Some p) q = ltb p q
+
+abbrev pub rises : (before : Option Step) → Step → Bool
+rises None t = true
+rises (Some s) t = above s.from s.letter s.to t.from t.letter t.to
+
+abbrev pub within : Step → Automaton → Bool
+within t a = ltb t.from a.states && ltb t.letter a.letters && ltb t.to a.states
 
 abbrev pub blank : Survey
 blank =
     record {
-      states = 0;
-      letters = 0;
-      start = 0;
+      automaton = unsaid;
       mode = 1;
       accepts = 0;
-      last = 0;
-      strayed = 0;
+      last_accept = None;
+      strayed = None;
       moves = 0;
-      from = 0;
-      letter = 0;
-      to = 0;
-      outside = 0;
-      unsorted = 0;
-    }
-
-abbrev pub headed_by : Survey → (n k start : ℕ) → Survey
-headed_by s n k q =
-    record {
-      states = n;
-      letters = k;
-      start = q;
-      mode = s.mode;
-      accepts = s.accepts;
-      last = s.last;
-      strayed = s.strayed;
-      moves = s.moves;
-      from = s.from;
-      letter = s.letter;
-      to = s.to;
-      outside = s.outside;
-      unsorted = s.unsorted;
-    }
-
-abbrev pub moded_by : Survey → (mode : ℕ) → Survey
-moded_by s m =
-    record {
-      states = s.states;
-      letters = s.letters;
-      start = s.start;
-      mode = m;
-      accepts = s.accepts;
-      last = s.last;
-      strayed = s.strayed;
-      moves = s.moves;
-      from = s.from;
-      letter = s.letter;
-      to = s.to;
-      outside = s.outside;
-      unsorted = s.unsorted;
+      last_move = None;
+      outside = None;
+      unsorted = None;
     }
 
 abbrev pub accepted_by : Survey → (state : ℕ) → Survey
 accepted_by s q =
-    record {
-      states = s.states;
-      letters = s.letters;
-      start = s.start;
-      mode = s.mode;
+    record s {
       accepts = suc s.accepts;
-      last = q;
-      strayed = reached s.strayed s.accepts ((eqb s.accepts 0 || ltb s.last q) && ltb q s.states);
-      moves = s.moves;
-      from = s.from;
-      letter = s.letter;
-      to = s.to;
-      outside = s.outside;
-      unsorted = s.unsorted;
+      last_accept = Some q;
+      strayed = at_fault s.strayed s.accepts (ascends s.last_accept q && ltb q s.automaton.states);
     }
 
-abbrev pub moved_by : Survey → (from letter to : ℕ) → Survey
-moved_by s p a q =
-    record {
-      states = s.states;
-      letters = s.letters;
-      start = s.start;
-      mode = s.mode;
-      accepts = s.accepts;
-      last = s.last;
-      strayed = s.strayed;
+abbrev pub moved_by : Survey → Step → Survey
+moved_by s t =
+    record s {
       moves = suc s.moves;
-      from = p;
-      letter = a;
-      to = q;
-      outside = reached s.outside s.moves (ltb p s.states && ltb a s.letters && ltb q s.states);
-      unsorted = reached s.unsorted s.moves (eqb s.moves 0 || above s.from s.letter s.to p a q);
+      last_move = Some t;
+      outside = at_fault s.outside s.moves (within t s.automaton);
+      unsorted = at_fault s.unsorted s.moves (rises s.last_move t);
     }
 
 -- what is known after one line more
 abbrev pub taken : Survey → Line → Survey
-taken s (line.Automaton n k q) = headed_by s n k q
-taken s (line.Mode m) = moded_by s m
+taken s (line.Automaton n k q) = record s { automaton = record { states = n; letters = k; start = q } }
+taken s (line.Mode m) = record s { mode = m }
 taken s (line.Accept q) = accepted_by s q
-taken s (line.Move p a q) = moved_by s p a q
-taken s line.Wrong = s
+taken s (line.Move p a q) = moved_by s (record { from = p; letter = a; to = q })
 
--- the lines that are left, after a line of this rank: the survey at their end, or the number of the first that may not stand
-unfoldable pub surveyed : (before number : ℕ) → Survey → List Line → Surveyed
-surveyed before i s [] = cond (eqb before 0) (Broken i) (Whole s)
-surveyed before i s (l ∷ ls) = cond (stands before l) (surveyed (order l) (suc i) (taken s l) ls) (Broken i)
+-- after all lines: there must be one
+abbrev pub ended : (last : Option Line) → (number : ℕ) → Survey → Result Survey Refusal
+ended None i s = Err (LineForm i)
+ended (Some l) i s = Ok s
+
+-- the lines that are left, after one or at the start: the survey at their end, or a refusal at the first that may not stand
+unfoldable pub surveyed : (before : Option Line) → (number : ℕ) → Survey → List (Option Line) → Result Survey Refusal
+surveyed before i s [] = ended before i s
+surveyed before i s (None ∷ ls) = Err (LineForm i)
+surveyed before i s (Some l ∷ ls) = cond (stands before l) (surveyed (Some l) (suc i) (taken s l) ls) (Err (LineForm i))
+
+-- a refusal at the first at fault, if one is
+abbrev pub fails_with : (ℕ → Refusal) → (first : Option ℕ) → Fault
+fails_with r None = none
+fails_with r (Some i) = fault (r i)
 
 -- the refusals that a survey decides, in the order of the program
 abbrev pub judgements : Survey → List Fault
 judgements s =
-    states_fault s.states
-    ∷ letters_fault s.letters
-    ∷ limits_fault (record { states = s.states; letters = s.letters; start = s.start })
-    ∷ fails (ltb s.strayed s.accepts) (Marks s.strayed)
-    ∷ fails (leb s.states s.start) Start
-    ∷ fails (ltb s.outside s.moves) (Outside s.outside)
-    ∷ fails (ltb s.unsorted s.moves) (Unsorted s.unsorted)
+    states_fault s.automaton.states
+    ∷ letters_fault s.automaton.letters
+    ∷ limits_fault s.automaton
+    ∷ fails_with Marks s.strayed
+    ∷ fails (leb s.automaton.states s.automaton.start) Start
+    ∷ fails_with Outside s.outside
+    ∷ fails_with Unsorted s.unsorted
     ∷ mode_fault s.mode
     ∷ []

@@ -1,7 +1,6 @@
 -- What the lines of a text say together: the automaton, its mode, and its refusals in the order of the program.
-use Rattle.std.specs.Prelude.{◌≡◌, ◌≢◌, Bool, false, ◌||◌, List, [], ◌∷◌, ◌++◌, ℕ, zero, suc, ◌/◌, ◌≤◌, ◌<◌, ltb, leb, length, get_or, set, replicate}
+use Rattle.std.specs.Prelude.{◌≡◌, ◌≢◌, Bool, false, ◌||◌, List, [], ◌∷◌, ◌++◌, ℕ, zero, suc, ◌/◌, ◌≤◌, ◌<◌, ltb, leb, length, get_or, set, replicate, Option, Some, None}
 use Rattle.automaton.specs.declared.Automaton.{Automaton}
-use Rattle.automaton.specs.declared.Named.TheVariants.{Unknown}
 use Rattle.automaton.specs.declared.Refusal.TheVariants.{Marks, Start, Outside, Unsorted, ProgramLimits, TooLong}
 use Rattle.automaton.specs.Answer.{Fault, fails, fails_at, first_fault}
 use Rattle.automaton.specs.Board.{Board, Formed, board_of, outside, unsorted}
@@ -19,52 +18,52 @@ abbrev pub unsaid : Automaton
 unsaid = record { states = 0; letters = 0; start = 0 }
 
 -- "First `automaton`, n, k, start": in a text of right form the first line says so
-abbrev pub head_in : Line → Automaton
-head_in (line.Automaton n k s) = record { states = n; letters = k; start = s }
-head_in (line.Mode m) = unsaid
-head_in (line.Accept q) = unsaid
-head_in (line.Move p a q) = unsaid
-head_in line.Wrong = unsaid
+abbrev pub head_in : Option Line → Automaton
+head_in (Some (line.Automaton n k s)) = record { states = n; letters = k; start = s }
+head_in (Some (line.Mode m)) = unsaid
+head_in (Some (line.Accept q)) = unsaid
+head_in (Some (line.Move p a q)) = unsaid
+head_in None = unsaid
 
-abbrev pub head : List Line → Automaton
-head ls = head_in (get_or ls 0 line.Wrong)
+abbrev pub head : List (Option Line) → Automaton
+head ls = head_in (get_or ls 0 None)
 
 -- "then optionally `mode`, m (missing means 1)": what a line makes of the mode before it
-abbrev pub mode_in : (mode : ℕ) → Line → ℕ
-mode_in m (line.Automaton n k s) = m
-mode_in m (line.Mode m') = m'
-mode_in m (line.Accept q) = m
-mode_in m (line.Move p a q) = m
-mode_in m line.Wrong = m
+abbrev pub mode_in : (mode : ℕ) → Option Line → ℕ
+mode_in m (Some (line.Automaton n k s)) = m
+mode_in m (Some (line.Mode m')) = m'
+mode_in m (Some (line.Accept q)) = m
+mode_in m (Some (line.Move p a q)) = m
+mode_in m None = m
 
-abbrev pub mode_after : (mode : ℕ) → List Line → ℕ
+abbrev pub mode_after : (mode : ℕ) → List (Option Line) → ℕ
 mode_after m [] = m
 mode_after m (l ∷ ls) = mode_after (mode_in m l) ls
 
-abbrev pub mode : List Line → ℕ
+abbrev pub mode : List (Option Line) → ℕ
 mode = mode_after 1
 
 -- "then `accept`, q": the state that a line names, and those that all do
-abbrev pub accepts_in : Line → List ℕ
-accepts_in (line.Automaton n k s) = []
-accepts_in (line.Mode m) = []
-accepts_in (line.Accept q) = q ∷ []
-accepts_in (line.Move p a q) = []
-accepts_in line.Wrong = []
+abbrev pub accepts_in : Option Line → List ℕ
+accepts_in (Some (line.Automaton n k s)) = []
+accepts_in (Some (line.Mode m)) = []
+accepts_in (Some (line.Accept q)) = q ∷ []
+accepts_in (Some (line.Move p a q)) = []
+accepts_in None = []
 
-abbrev pub accepts : List Line → List ℕ
+abbrev pub accepts : List (Option Line) → List ℕ
 accepts [] = []
 accepts (l ∷ ls) = accepts_in l ++ accepts ls
 
 -- "then `move`, from, letter, to": the three numbers of a move, and those of all moves
-abbrev pub moves_in : Line → List ℕ
-moves_in (line.Automaton n k s) = []
-moves_in (line.Mode m) = []
-moves_in (line.Accept q) = []
-moves_in (line.Move p a q) = p ∷ a ∷ q ∷ []
-moves_in line.Wrong = []
+abbrev pub moves_in : Option Line → List ℕ
+moves_in (Some (line.Automaton n k s)) = []
+moves_in (Some (line.Mode m)) = []
+moves_in (Some (line.Accept q)) = []
+moves_in (Some (line.Move p a q)) = p ∷ a ∷ q ∷ []
+moves_in None = []
 
-abbrev pub moves : List Line → List ℕ
+abbrev pub moves : List (Option Line) → List ℕ
 moves [] = []
 moves (l ∷ ls) = moves_in l ++ moves ls
 
@@ -74,11 +73,11 @@ marked [] marks = marks
 marked (q ∷ qs) marks = marked qs (set marks q 1)
 
 -- the marks of n states
-abbrev pub marks : (n : ℕ) → List Line → List ℕ
+abbrev pub marks : (n : ℕ) → List (Option Line) → List ℕ
 marks n ls = marked (accepts ls) (replicate n 0)
 
 -- the board of the automaton that the lines give
-abbrev pub board_in : List Line → Board
+abbrev pub board_in : List (Option Line) → Board
 board_in ls = board_of (head ls) (marks (head ls).states ls) (moves ls)
 
 -- ---- the refusals
@@ -106,7 +105,7 @@ abbrev pub stray : (n : ℕ) → (named : List ℕ) → ℕ → Bool
 stray n qs i = unascending qs i || leb n (get_or qs i 0)
 
 -- "Refusals: .. 20 ..; then 1, 2; then 21 ..; then 3 ..; then 4 and 6 to 8."
-abbrev pub line_faults : List Line → List Fault
+abbrev pub line_faults : List (Option Line) → List Fault
 line_faults ls =
     let a = head ls in
     form_fault ls
@@ -136,4 +135,4 @@ pub record Legible (text : List ℕ) : Type 0 where
   pub few_letters : (head (lines_of text)).letters ≤ program_letters
   pub formed : Formed (board_in (lines_of text))
   pub started : (head (lines_of text)).start < (head (lines_of text)).states
-  pub known : name_of (mode (lines_of text)) ≢ Unknown
+  pub known : name_of (mode (lines_of text)) ≢ None

@@ -1,5 +1,5 @@
 // The marks and the moves that a text gives, put into lent buffers.
-ghost use Rattle.std.specs.Prelude.{◌≡◌, length, replicate, ◌≤◌};
+ghost use Rattle.std.specs.Prelude.{◌≡◌, length, ◌≤◌};
 ghost use Rattle.fields.specs.Bytes.{laid, stop};
 ghost use Rattle.lines.specs.Lines.{lines_of};
 ghost use Rattle.text.specs.Text.{accepts, accepts_in, marked, marks as marks_of, moves as moves_of, moves_in};
@@ -7,7 +7,7 @@ ghost use Rattle.text.specs.Calls.{before};
 ghost use Rattle.text.specs.Fill.{bytes};
 
 use lines::line::Line;
-use lines::reader;
+use lines::reader::Reader;
 
 // Writes the marks of all states and the moves of a text.
 pub fn write(text: &[u8], states: usize, marks: &mut [u8], moves: &mut [u8])
@@ -15,19 +15,9 @@ pub fn write(text: &[u8], states: usize, marks: &mut [u8], moves: &mut [u8])
     ensures marks_after { marks.new ≡ before (marks_of states (lines_of text.now)) marks.old }
     ensures moves_after { moves.new ≡ laid 0 (bytes (moves_of (lines_of text.now))) moves.old }
 {
-    clear(&mut marks[0..states]);
-    fill(text, &mut marks[0..states], moves);
-}
-
-// Marks no state.
-fn clear(marks: &mut [u8])
-    ensures { marks.new ≡ replicate (length marks.old) 0 }
-{
-    let mut q = 0;
-    while q < marks.len() {
-        marks[q] = 0;
-        q += 1;
-    }
+    let front = &mut marks[..states];
+    front.fill(0);
+    fill(text, front, moves);
 }
 
 // Marks the states that accept lines name, and puts the moves one after another.
@@ -38,45 +28,33 @@ fn fill(text: &[u8], marks: &mut [u8], moves: &mut [u8])
     let mut at = 0;
     let mut to = 0;
     while at < text.len() {
-        let read = reader::next_at(text, at);
-        let line = read.line;
-        mark(marks, line);
-        to = lay(moves, to, line);
+        let read = Reader { text, at }.next();
+        mark(marks, read.line);
+        to = lay(moves, to, read.line);
         at = read.past;
     }
 }
 
 // Marks the state that an accept line names.
-fn mark(marks: &mut [u8], line: Line)
+fn mark(marks: &mut [u8], line: Option<Line>)
     ensures { marks.new ≡ marked (accepts_in line) marks.old }
 {
-    match line {
-        Line::Accept(state) => {
-            if state < marks.len() {
-                marks[state] = 1;
-            }
+    if let Some(Line::Accept(state)) = line {
+        if state < marks.len() {
+            marks[state] = 1;
         }
-        Line::Automaton(_, _, _) => {}
-        Line::Mode(_) => {}
-        Line::Move(_, _, _) => {}
-        Line::Wrong => {}
     }
 }
 
 // Puts the three bytes of a move line: the place past them.
-fn lay(moves: &mut [u8], at: usize, line: Line) -> usize
+fn lay(moves: &mut [u8], at: usize, line: Option<Line>) -> usize
     ensures value { result ≡ stop at (bytes (moves_in line)) moves.old }
     ensures moves_after { moves.new ≡ laid at (bytes (moves_in line)) moves.old }
 {
-    match line {
-        Line::Move(from, letter, to) => {
-            let first = fields::put(moves, at, (from % 256) as u8);
-            let second = fields::put(moves, first, (letter % 256) as u8);
-            fields::put(moves, second, (to % 256) as u8)
-        }
-        Line::Automaton(_, _, _) => at,
-        Line::Mode(_) => at,
-        Line::Accept(_) => at,
-        Line::Wrong => at,
-    }
+    let Some(Line::Move(from, letter, to)) = line else {
+        return at;
+    };
+    let first = fields::put(moves, at, (from % 256) as u8);
+    let second = fields::put(moves, first, (letter % 256) as u8);
+    fields::put(moves, second, (to % 256) as u8)
 }

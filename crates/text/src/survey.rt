@@ -1,94 +1,143 @@
 // What the lines of a text say, taken line by line: its numbers, and the first faults among its accept and move lines.
-ghost use Rattle.std.specs.Prelude.{◌≡◌, ◌≤◌, length};
+ghost use Rattle.std.specs.Prelude.{◌≡◌, ◌≤◌, None, length};
 ghost use Rattle.lines.specs.Lines.{lines_of};
 ghost use Rattle.text.specs.Order.{order as order_of, repeats as repeats_of, stands as stands_of};
-ghost use Rattle.text.specs.Survey.{Few, most, reached as reached_of, accepted_by, moved_by, taken, surveyed, blank as blank_of};
+ghost use Rattle.text.specs.Survey.{Few, most, at_fault as at_fault_of, ascends as ascends_of, rises as rises_of, within as within_of, accepted_by, moved_by, taken, surveyed, blank as blank_of};
 
+use automaton::{Automaton, Refusal};
 use lines::line::Line;
-use lines::reader;
+use lines::reader::Reader;
 
-// The numbers that the lines so far say. `strayed`, `outside` and `unsorted` count the lines before the first at fault.
+// The numbers of a move.
 #[derive(Clone, Copy)]
-pub struct Survey {
-    pub states: usize,
-    pub letters: usize,
-    pub start: usize,
-    pub mode: usize,
-    pub accepts: usize,
-    pub last: usize,
-    pub strayed: usize,
-    pub moves: usize,
+pub struct Step {
     pub from: usize,
     pub letter: usize,
     pub to: usize,
-    pub outside: usize,
-    pub unsorted: usize,
 }
 
-// The survey of a whole text, or the number of its first line of wrong form or order.
+// What the lines so far say. `strayed`, `outside` and `unsorted` are the numbers of the first accept and move lines at fault.
 #[derive(Clone, Copy)]
-pub enum Surveyed {
-    Whole(Survey),
-    Broken(usize),
+pub struct Survey {
+    pub automaton: Automaton,
+    pub mode: usize,
+    pub accepts: usize,
+    pub last_accept: Option<usize>,
+    pub strayed: Option<usize>,
+    pub moves: usize,
+    pub last_move: Option<Step>,
+    pub outside: Option<usize>,
+    pub unsorted: Option<usize>,
 }
 
-// The survey of all the lines.
-pub fn lines(text: &[u8]) -> Surveyed
+// The survey of all the lines. Refusal 20, at the first line of wrong form or order.
+pub fn lines(text: &[u8]) -> Result<Survey, Refusal>
     requires { length text.now ≤ most }
-    ensures { result ≡ surveyed 0 1 blank_of (lines_of text.now) }
+    ensures { result ≡ surveyed None 1 blank_of (lines_of text.now) }
 {
-    let mut known = blank();
-    let mut before = 0;
+    let mut known = Survey::blank();
+    let mut before = None;
     let mut number = 1;
     let mut at = 0;
     while at < text.len() {
-        let read = reader::next_at(text, at);
-        let line = read.line;
+        let read = Reader { text, at }.next();
+        let Some(line) = read.line else {
+            return Err(Refusal::LineForm(number));
+        };
         if !stands(before, line) {
-            return Surveyed::Broken(number);
+            return Err(Refusal::LineForm(number));
         }
-        before = order(line);
-        known = take(known, line);
+        known = known.with(line);
+        before = Some(line);
         number += 1;
         at = read.past;
     }
-    if before == 0 {
-        return Surveyed::Broken(number);
-    }
-    Surveyed::Whole(known)
-}
-
-// The survey of no lines: a missing mode line means 1.
-fn blank() -> Survey
-    ensures { result ≡ blank_of }
-{
-    Survey {
-        states: 0,
-        letters: 0,
-        start: 0,
-        mode: 1,
-        accepts: 0,
-        last: 0,
-        strayed: 0,
-        moves: 0,
-        from: 0,
-        letter: 0,
-        to: 0,
-        outside: 0,
-        unsorted: 0,
+    match before {
+        Some(_) => Ok(known),
+        None => Err(Refusal::LineForm(number)),
     }
 }
 
-// A line's rank in the order of the kinds, 0 for one of wrong form.
+impl Survey {
+    // The survey of no lines: a missing mode line means 1.
+    fn blank() -> Survey
+        ensures { result ≡ blank_of }
+    {
+        Survey {
+            automaton: Automaton {
+                states: 0,
+                letters: 0,
+                start: 0,
+            },
+            mode: 1,
+            accepts: 0,
+            last_accept: None,
+            strayed: None,
+            moves: 0,
+            last_move: None,
+            outside: None,
+            unsorted: None,
+        }
+    }
+
+    // The survey with one line more.
+    fn with(self, line: Line) -> Survey
+        requires { Few self most }
+        ensures { result ≡ taken self line }
+    {
+        match line {
+            Line::Automaton(states, letters, start) => Survey {
+                automaton: Automaton {
+                    states,
+                    letters,
+                    start,
+                },
+                ..self
+            },
+            Line::Mode(mode) => Survey { mode, ..self },
+            Line::Accept(state) => self.with_accept(state),
+            Line::Move(from, letter, to) => self.with_move(Step { from, letter, to }),
+        }
+    }
+
+    // One accept line more: it strays if it is not above the one before, or not below the number of states.
+    fn with_accept(self, state: usize) -> Survey
+        requires { self.accepts ≤ most }
+        ensures { result ≡ accepted_by self state }
+    {
+        let fine = ascends(self.last_accept, state) && state < self.automaton.states;
+        Survey {
+            accepts: self.accepts + 1,
+            last_accept: Some(state),
+            strayed: at_fault(self.strayed, self.accepts, fine),
+            ..self
+        }
+    }
+
+    // One move line more: inside the automaton or not, above the one before or not.
+    fn with_move(self, step: Step) -> Survey
+        requires { self.moves ≤ most }
+        ensures { result ≡ moved_by self step }
+    {
+        Survey {
+            moves: self.moves + 1,
+            last_move: Some(step),
+            outside: at_fault(self.outside, self.moves, step.within(self.automaton)),
+            unsorted: at_fault(self.unsorted, self.moves, step.rises(self.last_move)),
+            ..self
+        }
+    }
+}
+
+// A line's rank in the order of the kinds.
 fn order(line: Line) -> usize
     ensures { result ≡ order_of line }
 {
     match line {
-        Line::Automaton(_, _, _) => 1,
+        Line::Automaton(..) => 1,
         Line::Mode(_) => 2,
         Line::Accept(_) => 3,
-        Line::Move(_, _, _) => 4,
-        Line::Wrong => 0,
+        Line::Move(..) => 4,
     }
 }
 
@@ -96,92 +145,62 @@ fn order(line: Line) -> usize
 fn repeats(line: Line) -> bool
     ensures { result ≡ repeats_of line }
 {
-    match line {
-        Line::Automaton(_, _, _) => false,
-        Line::Mode(_) => false,
-        Line::Accept(_) => true,
-        Line::Move(_, _, _) => true,
-        Line::Wrong => false,
-    }
+    matches!(line, Line::Accept(_) | Line::Move(..))
 }
 
-// May the line stand after one of this rank? 0 is the rank before the first.
-fn stands(before: usize, line: Line) -> bool
+// May the line stand after the one before? The first stands after none.
+fn stands(before: Option<Line>, line: Line) -> bool
     ensures { result ≡ stands_of before line }
 {
     let rank = order(line);
-    if before == 0 {
-        return rank == 1;
+    match before {
+        Some(before) => order(before) < rank || (order(before) == rank && repeats(line)),
+        None => rank == 1,
     }
-    if before < rank {
-        return true;
-    }
-    if before == rank {
-        return repeats(line);
-    }
-    false
 }
 
-// The survey with one line more.
-fn take(known: Survey, line: Line) -> Survey
-    requires { Few known most }
-    ensures { result ≡ taken known line }
+// Is the state above that of the accept line before? The first has none before it.
+fn ascends(before: Option<usize>, state: usize) -> bool
+    ensures { result ≡ ascends_of before state }
 {
-    let mut s = known;
-    match line {
-        Line::Automaton(states, letters, start) => {
-            s.states = states;
-            s.letters = letters;
-            s.start = start;
-            s
+    match before {
+        Some(last) => last < state,
+        None => true,
+    }
+}
+
+impl Step {
+    // Is the move above the one before? The first has none before it.
+    fn rises(self, before: Option<Step>) -> bool
+        ensures { result ≡ rises_of before self }
+    {
+        match before {
+            Some(last) => automaton::is_above(
+                last.from,
+                last.letter,
+                last.to,
+                self.from,
+                self.letter,
+                self.to,
+            ),
+            None => true,
         }
-        Line::Mode(mode) => {
-            s.mode = mode;
-            s
-        }
-        Line::Accept(state) => with_accept(s, state),
-        Line::Move(from, letter, to) => with_move(s, from, letter, to),
-        Line::Wrong => s,
+    }
+
+    // Are its states and its letter the automaton's?
+    fn within(self, a: Automaton) -> bool
+        ensures { result ≡ within_of self a }
+    {
+        self.from < a.states && self.letter < a.letters && self.to < a.states
     }
 }
 
-// One accept line more: it strays if it is not above the one before, or not below the number of states.
-fn with_accept(known: Survey, state: usize) -> Survey
-    requires { known.accepts ≤ most }
-    ensures { result ≡ accepted_by known state }
+// The number of the first at fault, when the next one, of this number, is fine or not.
+fn at_fault(first: Option<usize>, number: usize, fine: bool) -> Option<usize>
+    ensures { result ≡ at_fault_of first number fine }
 {
-    let mut s = known;
-    let fine = (s.accepts == 0 || s.last < state) && state < s.states;
-    s.strayed = reached(s.strayed, s.accepts, fine);
-    s.accepts = s.accepts + 1;
-    s.last = state;
-    s
-}
-
-// One move line more: inside the automaton or not, above the one before or not.
-fn with_move(known: Survey, from: usize, letter: usize, to: usize) -> Survey
-    requires { known.moves ≤ most }
-    ensures { result ≡ moved_by known from letter to }
-{
-    let mut s = known;
-    let inside = from < s.states && letter < s.letters && to < s.states;
-    let above = s.moves == 0 || automaton::is_above(s.from, s.letter, s.to, from, letter, to);
-    s.outside = reached(s.outside, s.moves, inside);
-    s.unsorted = reached(s.unsorted, s.moves, above);
-    s.moves = s.moves + 1;
-    s.from = from;
-    s.letter = letter;
-    s.to = to;
-    s
-}
-
-// How many lines come before the first at fault, when one more is fine or not.
-fn reached(first: usize, count: usize, fine: bool) -> usize
-    requires { count ≤ most }
-    ensures { result ≡ reached_of first count fine }
-{
-    if first == count && fine {
-        return count + 1;
+    match first {
+        None if !fine => Some(number),
+        _ => first,
     }
-    first
 }

@@ -1,31 +1,12 @@
--- How far digits, words and quoted texts go: one byte more, or the end.
-use mathlib.Core.Path.{◌≡◌}
-use mathlib.Core.Bool.{Bool, true, false}
-use mathlib.Core.List.{List}
-use Prim.Native.Nat.{ℕ, ◌+◌, ◌<◌}
-use lib.ListN.{length, drop, get_or}
-use lib.Seq.{drop-length}
-use borrow.Author.Tests.{eq-eqb, ne_eqb}
-use Rattle.tokens.specs.Tokens.{past, unquoted}
-use Rattle.tokens.proofs.Front.{front, front_two, front_second, front_last}
-
--- bytes of one kind, whichever it is
-module _ (p : ℕ → Bool) (s : List ℕ) (i : ℕ) where
-  pub past_more : i < length s → p (get_or s i 0) ≡ true → past p (drop i s) i ≡ past p (drop (i + 1) s) (i + 1)
-  unfolding past
-  past_more h e = simp (front s i h, e)
-
-  pub past-out : i < length s → p (get_or s i 0) ≡ false → past p (drop i s) i ≡ i
-  unfolding past
-  past-out h e = simp (front s i h, e)
-
-  pub past_end : i ≡ length s → past p (drop i s) i ≡ i
-  unfolding past
-  past_end h = simp (h, drop-length)
+-- How far a quoted text goes: one byte more, or the end.
+use Rattle.std.proofs.Common.{◌≡◌, ℕ, ◌+◌, ◌<◌, List, length, drop, get_or, Some, None, eq-eqb, ne_eqb}
+use Rattle.std.proofs.Math.Seq.{drop-length}
+use Rattle.tokens.specs.Tokens.{unquoted}
+use Rattle.tokens.proofs.Front.{front_two, front_second, front_last}
 
 -- the inside of a quoted text
 module _ (s : List ℕ) (i : ℕ) where
-  pub quote_ends : i + 1 < length s → get_or s i 0 ≡ 34 → unquoted (drop i s) i ≡ i + 1
+  pub quote_ends : i + 1 < length s → get_or s i 0 ≡ 34 → unquoted (drop i s) i ≡ Some (i + 1)
   unfolding unquoted
   quote_ends h e = simp (front_two s i h, eq-eqb _ _ e)
 
@@ -37,14 +18,14 @@ module _ (s : List ℕ) (i : ℕ) where
   unfolding unquoted
   quote_more h n m = simp (front_two s i h, front_second s i h, ne_eqb _ _ n, ne_eqb _ _ m)
 
-  pub quote_last : i + 1 ≡ length s → get_or s i 0 ≡ 34 → unquoted (drop i s) i ≡ i + 1
+  pub quote_last : i + 1 ≡ length s → get_or s i 0 ≡ 34 → unquoted (drop i s) i ≡ Some (i + 1)
   unfolding unquoted
   quote_last h e = simp (front_last s i h, eq-eqb _ _ e)
 
-  pub quote_cut : i + 1 ≡ length s → (get_or s i 0 ≡ 34 → ⊥) → unquoted (drop i s) i ≡ 0
+  pub quote_cut : i + 1 ≡ length s → (get_or s i 0 ≡ 34 → ⊥) → unquoted (drop i s) i ≡ None
   unfolding unquoted
   quote_cut h n = simp (front_last s i h, ne_eqb _ _ n)
 
-  pub quote_none : i ≡ length s → unquoted (drop i s) i ≡ 0
+  pub quote_none : i ≡ length s → unquoted (drop i s) i ≡ None
   unfolding unquoted
   quote_none h = simp (h, drop-length)

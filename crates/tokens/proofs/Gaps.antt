@@ -1,12 +1,7 @@
 -- White space and comments unroll: each law is one way that the loop over a gap goes on or ends.
-use mathlib.Core.Path.{◌≡◌, refl}
-use mathlib.Core.Bool.{true, false}
-use mathlib.Core.List.{List}
-use Prim.Native.Nat.{ℕ, zero, suc, ◌+◌, ◌-◌, ◌<◌}
-use native.Mathlib.Numerals.{add-one}
-use native.Mathlib.Omega.{arith}
-use lib.ListN.{length, drop, get_or}
-use lib.Seq.{drop-length}
+use Rattle.std.proofs.Common.{◌≡◌, refl, true, false, List, ℕ, zero, suc, ◌+◌, ◌-◌, ◌≤◌, ◌<◌, ltb, length, drop, get_or, Some, None, add-one, arith}
+use Rattle.std.proofs.Math.Seq.{drop-length}
+use Rattle.fields.proofs.Tests.{by_test}
 use Rattle.tokens.specs.Tokens.{blank, opens, shuts, gap}
 use Rattle.tokens.proofs.Front.{front_two, front_second, front_last}
 
@@ -23,7 +18,7 @@ module _ (s : List ℕ) (i : ℕ) (h : i + 1 < length s) where
     gap-blank zero f n = simp (front_two s i h, front_second s i h, e, f)
     gap-blank (suc c) f n = absurd (omega arith)
 
-    pub gap-out : (c : ℕ) → blank (get_or s i 0) ≡ false → c ≡ 0 → gap (drop i s) c i ≡ record { at = i; inside = c }
+    pub gap-out : (c : ℕ) → blank (get_or s i 0) ≡ false → c ≡ 0 → gap (drop i s) c i ≡ Some i
     unfolding gap
     gap-out zero f n = simp (front_two s i h, e, f)
     gap-out (suc c) f n = absurd (omega arith)
@@ -38,23 +33,26 @@ module _ (s : List ℕ) (i : ℕ) (h : i + 1 < length s) where
     gap_in zero f n = absurd (n refl)
     gap_in (suc c) f n = simp (front_two s i h, front_second s i h, e, f)
 
--- one byte follows
+-- one byte follows, outside comments
 module _ (s : List ℕ) (i : ℕ) (h : i + 1 ≡ length s) where
-  pub gap_last_in : (c : ℕ) → 0 < c → gap (drop i s) c i ≡ record { at = i + 1; inside = c }
-  unfolding gap
-  gap_last_in zero n = absurd (omega arith)
-  gap_last_in (suc c) n = simp (front_last s i h)
-
-  pub gap_last_blank : (c : ℕ) → blank (get_or s i 0) ≡ true → c ≡ 0 → gap (drop i s) c i ≡ record { at = i + 1; inside = c }
+  pub gap_last_blank : (c : ℕ) → blank (get_or s i 0) ≡ true → c ≡ 0 → gap (drop i s) c i ≡ Some (i + 1)
   unfolding gap
   gap_last_blank zero f n = simp (front_last s i h, f)
   gap_last_blank (suc c) f n = absurd (omega arith)
 
-  pub gap_last_out : (c : ℕ) → blank (get_or s i 0) ≡ false → c ≡ 0 → gap (drop i s) c i ≡ record { at = i; inside = c }
+  pub gap_last_out : (c : ℕ) → blank (get_or s i 0) ≡ false → c ≡ 0 → gap (drop i s) c i ≡ Some i
   unfolding gap
   gap_last_out zero f n = simp (front_last s i h, f)
   gap_last_out (suc c) f n = absurd (omega arith)
 
-pub gap-end : (s : List ℕ) (c i : ℕ) → i ≡ length s → gap (drop i s) c i ≡ record { at = i; inside = c }
+-- none follows
+pub gap-end : (s : List ℕ) (c i : ℕ) → i ≡ length s → c ≡ 0 → gap (drop i s) c i ≡ Some i
 unfolding gap
-gap-end s c i h = simp (h, drop-length)
+gap-end s zero i h n = simp (h, drop-length)
+gap-end s (suc c) i h n = absurd (omega arith)
+
+-- the text ends inside a comment
+pub gap_open : (s : List ℕ) (c i : ℕ) → i ≤ length s → length s ≤ i + 1 → 0 < c → gap (drop i s) c i ≡ None
+unfolding gap
+gap_open s zero i l m n = absurd (omega arith)
+gap_open s (suc c) i l m n = by_test i (length s) (ltb i (length s)) refl (λ h. simp (front_last s i (omega arith))) (λ h. let e : i ≡ length s = omega arith in simp (e, drop-length))

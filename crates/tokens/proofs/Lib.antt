@@ -1,3 +1,4 @@
+pub mod Sorts
 pub mod Front
 pub mod Gaps
 pub mod Ends

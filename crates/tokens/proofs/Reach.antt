@@ -1,43 +1,47 @@
 -- Where tokens lie: at or behind the place asked for, within the text, and each that is one goes on.
-use mathlib.Core.Path.{◌≡◌, refl}
-use mathlib.Core.List.{List}
-use Prim.Native.Nat.{ℕ, ◌≤◌, ◌<◌}
-use native.Mathlib.Omega.{arith}
-use lib.ListN.{length, drop}
-use Rattle.tokens.specs.Sorts as sort
-use Rattle.tokens.specs.Tokens.{gap, token_from}
+use Rattle.std.proofs.Common.{◌≡◌, sym, true, List, ℕ, ◌≤◌, ◌<◌, length, arith, true≢false}
+use Rattle.tokens.specs.declared.Sort.TheVariants as sort
+use Rattle.tokens.specs.Sorts.{stands}
+use Rattle.tokens.specs.Tokens.{token_from}
 use Rattle.tokens.proofs.Bounds.{gap-bound}
-use Rattle.tokens.proofs.Ways.{from_ways}
+use Rattle.tokens.proofs.Ways.{from_ways, other-nothing, other-number}
 
 pub from-within : (s : List ℕ) (i : ℕ) → i ≤ length s → (i ≤ (token_from s i).at) × ((token_from s i).at ≤ length s)
 from-within s i h =
-    let b = gap-bound s i h in
-    from_ways (λ t. (i ≤ t.at) × (t.at ≤ length s)) s i
-    record { none = λ _. b; bad = b; number = λ _ _ _ _ _. b; other = λ _ _ _ _ _. b }
+    from_ways (λ t. (i ≤ t.at) × (t.at ≤ length s)) s i (omega arith, omega arith)
+    (λ j e. let b = gap-bound s i h e in record { none = λ _. b; bad = b; number = λ _ _ _ _ _. b; other = λ _ _ _ _ _. b })
 
-pub token_on : (s : List ℕ) (i : ℕ) → i ≤ length s → ((token_from s i).sort ≡ sort.wrong → ⊥) → ((token_from s i).sort ≡ sort.nothing → ⊥) → (i < (token_from s i).next) × ((token_from s i).next ≤ length s)
+pub token_on : (s : List ℕ) (i : ℕ) → i ≤ length s → stands (token_from s i).sort ≡ true → (i < (token_from s i).next) × ((token_from s i).next ≤ length s)
 token_on s i h =
-    let b = gap-bound s i h in
-    from_ways (λ t. (t.sort ≡ sort.wrong → ⊥) → (t.sort ≡ sort.nothing → ⊥) → (i < t.next) × (t.next ≤ length s)) s i
+    from_ways (λ t. stands t.sort ≡ true → (i < t.next) × (t.next ≤ length s)) s i (λ n. absurd (true≢false (sym n)))
+    (λ j e.
+    let b = gap-bound s i h e in
     record {
-      none = λ _ _ n. absurd (n refl);
-      bad = λ n _. absurd (n refl);
-      number = λ _ _ _ a w _ _. (omega arith, w);
-      other = λ _ _ _ a w _ _. (omega arith, w);
-    }
+      none = λ _ n. absurd (true≢false (sym n));
+      bad = λ n. absurd (true≢false (sym n));
+      number = λ _ _ _ a w _. (omega arith, w);
+      other = λ _ _ _ a w _. (omega arith, w);
+    })
 
-pub value-most : (s : List ℕ) (i : ℕ) → (token_from s i).value ≤ 65535
-value-most s i =
-    from_ways (λ t. t.value ≤ 65535) s i
-    record { none = λ _. omega arith; bad = omega arith; number = λ _ _ m _ _. m; other = λ _ _ _ _ _. omega arith }
+pub value-most : (s : List ℕ) (i : ℕ) {v : ℕ} → (token_from s i).sort ≡ sort.Number v → v ≤ 65535
+value-most s i {v} =
+    from_ways (λ t. t.sort ≡ sort.Number v → v ≤ 65535) s i (λ n. absurd (cc))
+    (λ j e.
+    record {
+      none = λ _ n. absurd (cc);
+      bad = λ n. absurd (cc);
+      number = λ u k m _ _ n. let same : u ≡ v = cc in omega arith;
+      other = λ k _ o _ _ n. absurd (other-number k v o n);
+    })
 
-pub nothing-end : (s : List ℕ) (i : ℕ) → i ≤ length s → (token_from s i).sort ≡ sort.nothing → (token_from s i).at ≡ length s
+pub nothing-end : (s : List ℕ) (i : ℕ) → i ≤ length s → (token_from s i).sort ≡ sort.Nothing → (token_from s i).at ≡ length s
 nothing-end s i h =
-    let b = gap-bound s i h in
-    from_ways (λ t. t.sort ≡ sort.nothing → t.at ≡ length s) s i
+    from_ways (λ t. t.sort ≡ sort.Nothing → t.at ≡ length s) s i (λ n. absurd (cc))
+    (λ j e.
+    let b = gap-bound s i h e in
     record {
-      none = λ e _. let end : (gap (drop i s) 0 i).at ≡ length s = omega arith in end;
-      bad = λ e. absurd (omega arith);
-      number = λ _ _ _ _ _ e. absurd (omega arith);
-      other = λ _ _ n _ _ e. absurd (n e);
-    }
+      none = λ l _. let end : j ≡ length s = omega arith in end;
+      bad = λ n. absurd (cc);
+      number = λ _ _ _ _ _ n. absurd (cc);
+      other = λ k _ o _ _ n. absurd (other-nothing k o n);
+    })

@@ -1,96 +1,60 @@
--- What a token of a Hanoi file can be. A number stands for each sort; `Sort` of the code has the same.
-use Rattle.std.specs.Prelude.{ℕ}
+-- The sorts of tokens, told apart.
+use Rattle.std.specs.Prelude.{Bool, true, false, ◌&&◌, ℕ, eqb}
+use Rattle.tokens.specs.declared.Sort.{Sort}
+use Rattle.tokens.specs.declared.Sort.TheVariants as sort
 
--- ---- the format's classes
+-- the place of a sort among the sorts
+abbrev pub index : Sort → ℕ
+index (sort.Number v) = 0
+index sort.Quoted = 1
+index sort.Name = 2
+index sort.True = 3
+index sort.False = 4
+index sort.Version = 5
+index sort.Inf = 6
+index sort.Not = 7
+index sort.And = 8
+index sort.Or = 9
+index sort.Group = 10
+index sort.GroupEnd = 11
+index sort.Label = 12
+index sort.LabelEnd = 13
+index sort.Marks = 14
+index sort.MarksEnd = 15
+index sort.Hoa = 16
+index sort.States = 17
+index sort.Start = 18
+index sort.Ap = 19
+index sort.Acceptance = 20
+index sort.State = 21
+index sort.Minor = 22
+index sort.Body = 23
+index sort.End = 24
+index sort.Nothing = 25
+index sort.Wrong = 26
 
--- a number of decimal digits, no zero before another, at most 65535
-abbrev pub number : ℕ
-number = 0
+-- the value of a number
+abbrev pub value : Sort → ℕ
+value (sort.Number v) = v
+value _ = 0
 
--- a text in double quotes
-abbrev pub quoted : ℕ
-quoted = 1
+-- are two sorts the same?
+abbrev pub is : Sort → Sort → Bool
+is a b = eqb (index a) (index b) && eqb (value a) (value b)
 
--- a word that is none of the four below
-abbrev pub name : ℕ
-name = 2
+-- a number, a text in quotes or a word
+abbrev pub plain : Sort → Bool
+plain (sort.Number v) = true
+plain sort.Quoted = true
+plain sort.Name = true
+plain sort.True = true
+plain sort.False = true
+plain sort.Version = true
+plain sort.Inf = true
+plain _ = false
 
--- ---- words: `t`, `f`, `v1`, `Inf`
-
-abbrev pub true : ℕ
-true = 3
-
-abbrev pub false : ℕ
-false = 4
-
-abbrev pub version : ℕ
-version = 5
-
-abbrev pub inf : ℕ
-inf = 6
-
--- ---- signs: `!`, `&`, `|`, `(`, `)`, `[`, `]`, `{`, `}`
-
-abbrev pub not : ℕ
-not = 7
-
-abbrev pub and : ℕ
-and = 8
-
-abbrev pub or : ℕ
-or = 9
-
-abbrev pub group : ℕ
-group = 10
-
-abbrev pub group_end : ℕ
-group_end = 11
-
-abbrev pub label : ℕ
-label = 12
-
-abbrev pub label_end : ℕ
-label_end = 13
-
-abbrev pub marks : ℕ
-marks = 14
-
-abbrev pub marks_end : ℕ
-marks_end = 15
-
--- ---- header words: `HOA:`, `States:`, `Start:`, `AP:`, `Acceptance:`, `State:`, and any that begins with a lower-case letter
-
-abbrev pub hoa : ℕ
-hoa = 16
-
-abbrev pub states : ℕ
-states = 17
-
-abbrev pub start : ℕ
-start = 18
-
-abbrev pub ap : ℕ
-ap = 19
-
-abbrev pub acceptance : ℕ
-acceptance = 20
-
-abbrev pub state : ℕ
-state = 21
-
-abbrev pub minor : ℕ
-minor = 22
-
--- ---- `--BODY--`, `--END--`; that no token follows; and what is no token of the part that is read
-
-abbrev pub body : ℕ
-body = 23
-
-abbrev pub end : ℕ
-end = 24
-
-abbrev pub nothing : ℕ
-nothing = 25
-
-abbrev pub wrong : ℕ
-wrong = 26
+-- does a token of this sort stand in the text?
+abbrev pub stands : Sort → Bool
+stands sort.Nothing = false
+stands sort.Wrong = false
+stands _ = true

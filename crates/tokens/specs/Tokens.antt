@@ -1,12 +1,11 @@
 -- The tokens of a Hanoi file: white space and comments, and what stands at or after a place.
-use Rattle.std.specs.Prelude.{Bool, cond, ◌&&◌, ◌||◌, List, [], ◌∷◌, ℕ, zero, suc, ◌+◌, ◌-◌, eqb, ltb, leb, length, drop, take, get_or}
-use Rattle.fields.specs.declared.Number.{Number}
-use Rattle.fields.specs.declared.Number.TheVariants.{Is, Not}
-use Rattle.fields.specs.Bytes.{bytes_of, same}
+use Rattle.std.specs.Prelude.{Bool, cond, ◌&&◌, ◌||◌, List, [], ◌∷◌, ℕ, zero, suc, ◌+◌, ◌-◌, eqb, ltb, leb, length, drop, take, get_or, Option, Some, None, bytes_eq}
+use Rattle.std.specs.List.{prefix_len}
+use Rattle.fields.specs.Bytes.{bytes_of}
 use Rattle.fields.specs.Numbers.{number_of}
-use Rattle.tokens.specs.declared.Gap.{Gap}
 use Rattle.tokens.specs.declared.Token.{Token}
-use Rattle.tokens.specs.Sorts as sort
+use Rattle.tokens.specs.declared.Sort.{Sort}
+use Rattle.tokens.specs.declared.Sort.TheVariants as sort
 
 -- ---- bytes
 
@@ -43,15 +42,16 @@ piece s i j = take (j - i) (drop i s)
 
 -- ---- between tokens
 
--- Where white space and comments end, from place i on and inside c comments; comments nest. `inside` tells how many are left open at the end of the text.
-unfoldable pub gap : List ℕ → (c i : ℕ) → Gap
-gap [] c i = record { at = i; inside = c }
-gap (a ∷ []) zero i = record { at = cond (blank a) (i + 1) i; inside = 0 }
-gap (a ∷ []) (suc c) i = record { at = i + 1; inside = suc c }
+-- Where white space and comments end, from place i on and inside c comments; comments nest. None if the text ends inside one.
+unfoldable pub gap : List ℕ → (c i : ℕ) → Option ℕ
+gap [] zero i = Some i
+gap [] (suc c) i = None
+gap (a ∷ []) zero i = Some (cond (blank a) (i + 1) i)
+gap (a ∷ []) (suc c) i = None
 gap (a ∷ b ∷ bs) zero i =
     cond (opens a b) (gap bs 1 (i + 2))
     (cond (blank a) (gap (b ∷ bs) 0 (i + 1))
-    (record { at = i; inside = 0 }))
+    (Some i))
 gap (a ∷ b ∷ bs) (suc c) i =
     cond (opens a b) (gap bs (suc (suc c)) (i + 2))
     (cond (shuts a b) (gap bs c (i + 2))
@@ -60,70 +60,69 @@ gap (a ∷ b ∷ bs) (suc c) i =
 -- ---- how far a token goes
 
 -- the place behind the bytes of one kind that follow place i
-unfoldable pub past : (ℕ → Bool) → List ℕ → (i : ℕ) → ℕ
-past p [] i = i
-past p (b ∷ bs) i = cond (p b) (past p bs (i + 1)) i
+abbrev pub past : (ℕ → Bool) → (text : List ℕ) → (i : ℕ) → ℕ
+past p s i = i + prefix_len p (drop i s)
 
--- the place behind the quote that ends a text, whose inside follows place i; a byte behind a backslash ends nothing. 0 if no quote does.
-unfoldable pub unquoted : List ℕ → (i : ℕ) → ℕ
-unquoted [] i = 0
-unquoted (a ∷ []) i = cond (eqb a 34) (i + 1) 0
+-- The place behind the quote that ends a text, whose inside follows place i; a byte behind a backslash ends nothing. None if no quote does.
+unfoldable pub unquoted : List ℕ → (i : ℕ) → Option ℕ
+unquoted [] i = None
+unquoted (a ∷ []) i = cond (eqb a 34) (Some (i + 1)) None
 unquoted (a ∷ b ∷ bs) i =
-    cond (eqb a 34) (i + 1)
+    cond (eqb a 34) (Some (i + 1))
     (cond (eqb a 92) (unquoted bs (i + 2))
     (unquoted (b ∷ bs) (i + 1)))
 
 -- ---- what a token is
 
 -- of a word that no colon follows
-abbrev pub word_sort : (word : List ℕ) → ℕ
+abbrev pub word_sort : (word : List ℕ) → Sort
 word_sort w =
-    cond (same w (bytes_of "t")) sort.true
-    (cond (same w (bytes_of "f")) sort.false
-    (cond (same w (bytes_of "v1")) sort.version
-    (cond (same w (bytes_of "Inf")) sort.inf
-    sort.name)))
+    cond (bytes_eq w (bytes_of "t")) sort.True
+    (cond (bytes_eq w (bytes_of "f")) sort.False
+    (cond (bytes_eq w (bytes_of "v1")) sort.Version
+    (cond (bytes_eq w (bytes_of "Inf")) sort.Inf
+    sort.Name)))
 
 -- of a word that a colon follows
-abbrev pub head_sort : (word : List ℕ) → ℕ
+abbrev pub head_sort : (word : List ℕ) → Sort
 head_sort w =
-    cond (same w (bytes_of "HOA")) sort.hoa
-    (cond (same w (bytes_of "States")) sort.states
-    (cond (same w (bytes_of "Start")) sort.start
-    (cond (same w (bytes_of "AP")) sort.ap
-    (cond (same w (bytes_of "Acceptance")) sort.acceptance
-    (cond (same w (bytes_of "State")) sort.state
-    (cond (lower (get_or w 0 0)) sort.minor
-    sort.wrong))))))
+    cond (bytes_eq w (bytes_of "HOA")) sort.Hoa
+    (cond (bytes_eq w (bytes_of "States")) sort.States
+    (cond (bytes_eq w (bytes_of "Start")) sort.Start
+    (cond (bytes_eq w (bytes_of "AP")) sort.Ap
+    (cond (bytes_eq w (bytes_of "Acceptance")) sort.Acceptance
+    (cond (bytes_eq w (bytes_of "State")) sort.State
+    (cond (lower (get_or w 0 0)) sort.Minor
+    sort.Wrong))))))
 
 -- of a byte that begins no number, word, text or dashes
-abbrev pub sign_sort : (byte : ℕ) → ℕ
+abbrev pub sign_sort : (byte : ℕ) → Sort
 sign_sort b =
-    cond (eqb b 33) sort.not
-    (cond (eqb b 38) sort.and
-    (cond (eqb b 124) sort.or
-    (cond (eqb b 40) sort.group
-    (cond (eqb b 41) sort.group_end
-    (cond (eqb b 91) sort.label
-    (cond (eqb b 93) sort.label_end
-    (cond (eqb b 123) sort.marks
-    (cond (eqb b 125) sort.marks_end
-    sort.wrong))))))))
+    cond (eqb b 33) sort.Not
+    (cond (eqb b 38) sort.And
+    (cond (eqb b 124) sort.Or
+    (cond (eqb b 40) sort.Group
+    (cond (eqb b 41) sort.GroupEnd
+    (cond (eqb b 91) sort.Label
+    (cond (eqb b 93) sort.LabelEnd
+    (cond (eqb b 123) sort.Marks
+    (cond (eqb b 125) sort.MarksEnd
+    sort.Wrong))))))))
 
 -- ---- the token
 
--- a token that is no number
-abbrev pub sorted : (sort at next : ℕ) → Token
-sorted k i j = record { sort = k; value = 0; at = i; next = j }
+-- a token of a sort
+abbrev pub sorted : Sort → (at next : ℕ) → Token
+sorted k i j = record { sort = k; at = i; next = j }
 
 -- nothing that may stand at i
 abbrev pub wrong_at : (at : ℕ) → Token
-wrong_at i = sorted sort.wrong i i
+wrong_at i = sorted sort.Wrong i i
 
 -- digits from i to j
-abbrev pub numeral : Number → (i j : ℕ) → Token
-numeral (Is v) i j = record { sort = sort.number; value = v; at = i; next = j }
-numeral Not i j = wrong_at i
+abbrev pub numeral : Option ℕ → (i j : ℕ) → Token
+numeral (Some v) i j = sorted (sort.Number v) i j
+numeral None i j = wrong_at i
 
 -- a word from i to j, or a header word with its colon at j
 abbrev pub worded : (text : List ℕ) → (i j : ℕ) → Token
@@ -131,30 +130,36 @@ worded s i j =
     cond (eqb (get_or s j 0) 58) (sorted (head_sort (piece s i j)) i (j + 1))
     (sorted (word_sort (piece s i j)) i j)
 
--- a text in quotes whose end is at j, 0 if it has none
-abbrev pub quoted_to : (i j : ℕ) → Token
-quoted_to i j = cond (eqb j 0) (wrong_at i) (sorted sort.quoted i j)
+-- a text in quotes, by the place behind its end
+abbrev pub quoted_to : (i : ℕ) → Option ℕ → Token
+quoted_to i (Some j) = sorted sort.Quoted i j
+quoted_to i None = wrong_at i
+
+-- do these bytes stand at i?
+abbrev pub begins : (text : List ℕ) → (i : ℕ) → (bytes : List ℕ) → Bool
+begins s i bs = bytes_eq bs (take (length bs) (drop i s))
 
 -- `--BODY--` or `--END--` at i
 abbrev pub dashed : (text : List ℕ) → (i : ℕ) → Token
 dashed s i =
-    cond (same (piece s i (i + 8)) (bytes_of "--BODY--")) (sorted sort.body i (i + 8))
-    (cond (same (piece s i (i + 7)) (bytes_of "--END--")) (sorted sort.end i (i + 7))
+    cond (begins s i (bytes_of "--BODY--")) (sorted sort.Body i (i + 8))
+    (cond (begins s i (bytes_of "--END--")) (sorted sort.End i (i + 7))
     (wrong_at i))
 
 -- the token whose first byte is at i
 unfoldable pub token_at : (text : List ℕ) → (i : ℕ) → Token
 token_at s i =
-    cond (leb (length s) i) (sorted sort.nothing i i)
-    (cond (digit (get_or s i 0)) (numeral (number_of (piece s i (past digit (drop i s) i))) i (past digit (drop i s) i))
-    (cond (letter (get_or s i 0)) (worded s i (past wordly (drop i s) i))
+    cond (leb (length s) i) (sorted sort.Nothing i i)
+    (cond (digit (get_or s i 0)) (numeral (number_of (piece s i (past digit s i))) i (past digit s i))
+    (cond (letter (get_or s i 0)) (worded s i (past wordly s i))
     (cond (eqb (get_or s i 0) 34) (quoted_to i (unquoted (drop (i + 1) s) (i + 1)))
     (cond (eqb (get_or s i 0) 45) (dashed s i)
     (sorted (sign_sort (get_or s i 0)) i (i + 1))))))
 
 -- past white space and comments; a comment left open ends the text, and nothing may stand there
-abbrev pub behind : (text : List ℕ) → Gap → Token
-behind s g = cond (ltb 0 g.inside) (wrong_at g.at) (token_at s g.at)
+abbrev pub behind : (text : List ℕ) → Option ℕ → Token
+behind s (Some i) = token_at s i
+behind s None = wrong_at (length s)
 
 -- the token at or after i
 unfoldable pub token_from : (text : List ℕ) → (i : ℕ) → Token

@@ -6,40 +6,26 @@ mod jobs; // jobs.rt: a job for the calls with chosen faults
 mod refusals; // refusals.rt: every refusal of every call
 mod told; // told.rt: the number and the place of each answer
 
-use compare::line;
 use std::io;
+
+// Prints how many automata have the relation that `second` reckons: all of small sizes, and many at random.
+fn agreed(rt: &impl Print) -> io::Result<()> {
+    for (size, states, letters, sets) in [
+        ("1 state, 1 letter", 1, 1, 2),
+        ("2 states, 1 letter", 2, 1, 16),
+        ("3 states, 1 letter", 3, 1, 512),
+        ("2 states, 2 letters", 2, 2, 256),
+        ("4 states, 1 letter", 4, 1, 65536),
+    ] {
+        let count = compare::all_moves(rt, states, letters, 0..sets)?;
+        println!(rt; "agreed: all of {size}\t{count}")?;
+    }
+    let count = compare::at_random(rt, 88172645463325252, 10000)?;
+    println!(rt; "agreed: drawn, up to 8 states and 4 letters\t{count}")
+}
 
 fn main(rt: HostRuntime) -> io::Result<()> {
     cases::run(&rt)?;
     refusals::run(&rt)?;
-    line(
-        &rt,
-        b"agreed: all of 1 state, 1 letter",
-        compare::all_moves(&rt, 1, 1, 0, 2)?,
-    )?;
-    line(
-        &rt,
-        b"agreed: all of 2 states, 1 letter",
-        compare::all_moves(&rt, 2, 1, 0, 16)?,
-    )?;
-    line(
-        &rt,
-        b"agreed: all of 3 states, 1 letter",
-        compare::all_moves(&rt, 3, 1, 0, 512)?,
-    )?;
-    line(
-        &rt,
-        b"agreed: all of 2 states, 2 letters",
-        compare::all_moves(&rt, 2, 2, 0, 256)?,
-    )?;
-    line(
-        &rt,
-        b"agreed: all of 4 states, 1 letter",
-        compare::all_moves(&rt, 4, 1, 0, 65536)?,
-    )?;
-    line(
-        &rt,
-        b"agreed: drawn, up to 8 states and 4 letters",
-        compare::at_random(&rt, 88172645463325252, 10000)?,
-    )
+    agreed(&rt)
 }

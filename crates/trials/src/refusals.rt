@@ -2,206 +2,160 @@
 // the job with that fault alone, then for the one with all later faults too.
 use super::jobs::Faults;
 use super::told::Told;
-use super::{jobs, told};
-use automaton::Automaton;
-use compare::{line, print, print_number};
-use std::io;
+use arena::Job;
+use std::{fmt, io};
 
-// The number of calls, and of refusals.
-const CALLS: usize = 12;
-
+// The number of refusals.
 const REFUSALS: usize = 17;
 
-// What the outputs hold before a call.
-const UNWRITTEN: u8 = 7;
+// The outputs, and what they hold before a call.
+#[derive(Clone, Copy, PartialEq, Eq)]
+struct Outputs {
+    pairs: [u8; 6],
+    classes: [u8; 6],
+    classmarks: [u8; 6],
+    classmoves: [u8; 6],
+}
 
-// The numbers that a job hands to the calls.
+const UNWRITTEN: Outputs = Outputs {
+    pairs: [7; 6],
+    classes: [7; 6],
+    classmarks: [7; 6],
+    classmoves: [7; 6],
+};
+
 #[derive(Clone, Copy)]
-struct Job {
-    a: Automaton,
-    mode: usize,
-    position: usize,
+enum Call {
+    Limits,
+    Check,
+    Positions,
+    Ceiling,
+    ForTable,
+    Clear,
+    Settle,
+    Lift,
+    Rest,
+    Relation,
+    Reply,
+    Quotient,
 }
 
-// What a call answered, and whether it left alone what it was lent or was accepted.
-#[derive(Clone, Copy)]
-struct Tried {
-    told: Told,
-    kept: bool,
-}
-
-fn print_name(rt: &impl Print, call: usize) -> io::Result<()> {
-    match call {
-        0 => print(rt, b"limits"),
-        1 => print(rt, b"check"),
-        2 => print(rt, b"positions"),
-        3 => print(rt, b"ceiling"),
-        4 => print(rt, b"for_table"),
-        5 => print(rt, b"clear"),
-        6 => print(rt, b"settle"),
-        7 => print(rt, b"lift"),
-        8 => print(rt, b"rest"),
-        9 => print(rt, b"relation"),
-        10 => print(rt, b"reply"),
-        _ => print(rt, b"quotient"),
+impl fmt::Display for Call {
+    fn fmt<W: fmt::Write>(&self, f: &mut fmt::Formatter<W>) -> fmt::Result {
+        f.write_str(match self {
+            Call::Limits => "limits",
+            Call::Check => "check",
+            Call::Positions => "positions",
+            Call::Ceiling => "ceiling",
+            Call::ForTable => "for_table",
+            Call::Clear => "clear",
+            Call::Settle => "settle",
+            Call::Lift => "lift",
+            Call::Rest => "rest",
+            Call::Relation => "relation",
+            Call::Reply => "reply",
+            Call::Quotient => "quotient",
+        })
     }
 }
 
-// Makes one of the calls.
-fn ask(
-    call: usize,
-    job: Job,
-    marks: &[u8],
-    moves: &[u8],
-    entries: &mut [u32],
-    pairs: &mut [u8],
-    classes: &mut [u8],
-    classmarks: &mut [u8],
-    classmoves: &mut [u8],
-) -> Told {
-    let a = job.a;
-    let mode = job.mode;
-    let position = job.position;
-    match call {
-        0 => told::of_checked(automaton::limits(a)),
-        1 => told::of_checked(automaton::check(a, marks, moves)),
-        2 => told::of_counted(arena::positions(a, mode)),
-        3 => told::of_counted(arena::ceiling(a, marks, moves, mode)),
-        4 => told::of_opened(arena::for_table(a, marks, moves, mode, entries.len())),
-        5 => told::of_cleared(table::clear(a, marks, moves, mode, entries)),
-        6 => told::of_settled(table::settle(a, marks, moves, mode, entries)),
-        7 => told::of_lifted(table::lift(a, marks, moves, mode, entries, position)),
-        8 => told::of_rested(table::rest(a, marks, moves, mode, &entries[..])),
-        9 => told::of_related(relation::relation(a, marks, moves, mode, &entries[..], pairs)),
-        10 => told::of_replied(relation::reply(a, marks, moves, mode, &entries[..], position)),
-        _ => told::of_merged(quotient::quotient(
-            a, marks, moves, mode, entries, classes, classmarks, classmoves,
-        )),
-    }
-}
+impl Call {
+    const ALL: [Call; 12] = [
+        Call::Limits,
+        Call::Check,
+        Call::Positions,
+        Call::Ceiling,
+        Call::ForTable,
+        Call::Clear,
+        Call::Settle,
+        Call::Lift,
+        Call::Rest,
+        Call::Relation,
+        Call::Reply,
+        Call::Quotient,
+    ];
 
-// Are the entries the same?
-fn same(x: &[u32; 16], y: &[u32; 16]) -> bool {
-    let mut i = 0;
-    while i < 16 {
-        if x[i] != y[i] {
-            return false;
-        }
-        i += 1;
-    }
-    true
-}
-
-// Is no byte written?
-fn untouched(out: &[u8; 6]) -> bool {
-    let mut i = 0;
-    while i < 6 {
-        if out[i] != UNWRITTEN {
-            return false;
-        }
-        i += 1;
-    }
-    true
-}
-
-// Makes a call on the job with these faults.
-fn trial(call: usize, faults: Faults) -> Tried {
-    let job = Job {
-        a: jobs::automaton_with(faults),
-        mode: jobs::mode_with(faults),
-        position: jobs::position_with(faults),
-    };
-    let marks = jobs::marks_with(faults);
-    let moves = jobs::moves_with(faults);
-    let lent = jobs::table_with(faults);
-    let mut entries = jobs::table_with(faults);
-    let mut pairs = [UNWRITTEN; 6];
-    let mut classes = [UNWRITTEN; 6];
-    let mut classmarks = [UNWRITTEN; 6];
-    let mut classmoves = [UNWRITTEN; 6];
-    let bytes = jobs::bytes_with(faults);
-    let size = jobs::entries_with(faults);
-    let short = jobs::short_with(faults);
-    let told = ask(
-        call,
-        job,
-        &marks[..],
-        &moves[0..bytes],
-        &mut entries[0..size],
-        &mut pairs[0..4 - short],
-        &mut classes[0..2 - short],
-        &mut classmarks[0..2 - short],
-        &mut classmoves[0..bytes - short],
-    );
-    if told.number == 0 {
-        return Tried {
-            told: told,
-            kept: true,
+    // Makes the call on a job and a table with these faults: what it answered, and the outputs after it.
+    fn make(self, faults: Faults, job: &Job, table: &mut [u32]) -> (Told, Outputs) {
+        let a = job.automaton;
+        let position = faults.position();
+        let short = faults.short();
+        let mut outputs = UNWRITTEN;
+        let told = match self {
+            Call::Limits => Told::of(automaton::limits(a)),
+            Call::Check => Told::of(automaton::check(a, job.marks, job.moves)),
+            Call::Positions => Told::of(arena::positions(a, job.mode)),
+            Call::Ceiling => Told::of(arena::ceiling(job)),
+            Call::ForTable => Told::of(arena::for_table(job, table.len())),
+            Call::Clear => Told::of(table::clear(job, table)),
+            Call::Settle => Told::of(table::settle(job, table)),
+            Call::Lift => Told::of(table::lift(job, table, position)),
+            Call::Rest => Told::of_rest(table::rest(job, table)),
+            Call::Relation => Told::of(relation::relation(
+                job,
+                table,
+                &mut outputs.pairs[..4 - short],
+            )),
+            Call::Reply => Told::of(relation::reply(job, table, position)),
+            Call::Quotient => Told::of(quotient::quotient(
+                job,
+                table,
+                &mut outputs.classes[..2 - short],
+                &mut outputs.classmarks[..2 - short],
+                &mut outputs.classmoves[..faults.bytes() - short],
+            )),
         };
+        (told, outputs)
     }
-    let outputs = untouched(&pairs) && untouched(&classes);
-    let others = untouched(&classmarks) && untouched(&classmoves);
-    Tried {
-        told: told,
-        kept: same(&lent, &entries) && outputs && others,
+
+    // Makes the call on the job with these faults: what it answered, and whether it was refused and wrote something.
+    fn tried(self, faults: Faults) -> (Told, bool) {
+        let marks = faults.marks();
+        let moves = faults.moves();
+        let job = Job {
+            automaton: faults.automaton(),
+            marks: &marks,
+            moves: &moves[..faults.bytes()],
+            mode: faults.mode(),
+        };
+        let lent = faults.table();
+        let mut entries = lent;
+        let (told, outputs) = self.make(faults, &job, &mut entries[..faults.entries()]);
+        let wrote = told.number != 0 && (entries != lent || outputs != UNWRITTEN);
+        (told, wrote)
     }
 }
 
-// Prints what a call answered to the job with a refusal's fault, and with the later ones too if `later` says so:
-// 1 if it was refused and wrote something, else 0.
-fn print_trial(rt: &impl Print, call: usize, number: usize, later: bool) -> io::Result<u64> {
-    let mut last = number;
-    if later {
-        last = REFUSALS;
-    }
-    let tried = trial(
-        call,
-        Faults {
+// Prints a call's row, with all later faults too if `later` says so: how many times it was refused and wrote something.
+fn row(rt: &impl Print, call: Call, later: bool) -> io::Result<usize> {
+    let mut written = 0usize;
+    print!(rt; "{call}")?;
+    for number in 1..=REFUSALS {
+        let last = if later { REFUSALS } else { number };
+        let (told, wrote) = call.tried(Faults {
             first: number,
-            last: last,
-        },
-    );
-    let told = tried.told;
-    let place = told.place;
-    print_number(rt, told.number)?;
-    print!(rt; "@{place}")?;
-    if tried.kept {
-        return Ok(0);
+            last,
+        });
+        print!(rt; "\t{told}")?;
+        written = written.saturating_add(usize::from(wrote));
     }
-    Ok(1)
-}
-
-// Prints a call's row: how many times it was refused and wrote something.
-fn row(rt: &impl Print, call: usize, later: bool) -> io::Result<u64> {
-    let mut written = 0;
-    let mut number = 1;
-    print_name(rt, call)?;
-    while number <= REFUSALS {
-        written = compare::more(written, print_trial(rt, call, number, later)?);
-        number += 1;
-    }
-    print(rt, b"\n")?;
+    println!(rt)?;
     Ok(written)
 }
 
 // Prints the rows of all calls.
-fn rows(rt: &impl Print, later: bool) -> io::Result<u64> {
-    let mut written = 0;
-    let mut call = 0;
-    while call < CALLS {
-        written = compare::more(written, row(rt, call, later)?);
-        call += 1;
+fn rows(rt: &impl Print, later: bool) -> io::Result<usize> {
+    let mut written = 0usize;
+    for call in Call::ALL {
+        written = written.saturating_add(row(rt, call, later)?);
     }
     Ok(written)
 }
 
 pub fn run(rt: &impl Print) -> io::Result<()> {
-    print(rt, b"refusals, number and place: each fault alone\n")?;
+    println!(rt; "refusals, number and place: each fault alone")?;
     let alone = rows(rt, false)?;
-    print(
-        rt,
-        b"refusals, number and place: each fault with all later ones\n",
-    )?;
+    println!(rt; "refusals, number and place: each fault with all later ones")?;
     let later = rows(rt, true)?;
-    line(rt, b"refused calls that wrote", compare::more(alone, later))
+    println!(rt; "refused calls that wrote\t{}", alone.saturating_add(later))
 }

@@ -1,101 +1,37 @@
 // The number and the place of each answer, by document 01: number 0 if the call is accepted.
-use arena::{Counted, Opened};
-use automaton::{Checked, Refusal};
-use quotient::Merged;
-use relation::{Related, Replied};
-use table::{Cleared, Lifted, Rested, Settled};
+use automaton::Refusal;
+use std::fmt;
 
-#[derive(Clone, Copy)]
+#[derive(Clone, Copy, Default)]
 pub struct Told {
     pub number: usize,
     pub place: usize,
 }
 
-fn accepted() -> Told {
-    Told {
-        number: 0,
-        place: 0,
+impl Told {
+    // What an answer tells. Of the value of an accepted one it tells nothing.
+    pub fn of<T: Drop>(answer: Result<T, Refusal>) -> Told {
+        match answer {
+            Ok(_) => Told::default(),
+            Err(refusal) => Told {
+                number: refusal.number(),
+                place: refusal.place(),
+            },
+        }
+    }
+
+    // What the answer of `rest` tells: the lowest restless position as a place.
+    pub fn of_rest(answer: Result<Option<usize>, Refusal>) -> Told {
+        match answer {
+            Ok(Some(place)) => Told { number: 0, place },
+            other => Told::of(other),
+        }
     }
 }
 
-fn refused(refusal: Refusal) -> Told {
-    Told {
-        number: refusal.number(),
-        place: refusal.place(),
-    }
-}
-
-pub fn of_checked(answer: Checked) -> Told {
-    match answer {
-        Checked::Sound => accepted(),
-        Checked::Refused(refusal) => refused(refusal),
-    }
-}
-
-pub fn of_counted(answer: Counted) -> Told {
-    match answer {
-        Counted::Number(_) => accepted(),
-        Counted::Refused(refusal) => refused(refusal),
-    }
-}
-
-pub fn of_opened(answer: Opened) -> Told {
-    match answer {
-        Opened::Open(_) => accepted(),
-        Opened::Shut(refusal) => refused(refusal),
-    }
-}
-
-pub fn of_cleared(answer: Cleared) -> Told {
-    match answer {
-        Cleared::Done => accepted(),
-        Cleared::Refused(refusal) => refused(refusal),
-    }
-}
-
-pub fn of_settled(answer: Settled) -> Told {
-    match answer {
-        Settled::Raised(_) => accepted(),
-        Settled::Refused(refusal) => refused(refusal),
-    }
-}
-
-pub fn of_lifted(answer: Lifted) -> Told {
-    match answer {
-        Lifted::Rose => accepted(),
-        Lifted::Stayed => accepted(),
-        Lifted::Refused(refusal) => refused(refusal),
-    }
-}
-
-pub fn of_rested(answer: Rested) -> Told {
-    match answer {
-        Rested::AtRest => accepted(),
-        Rested::Restless(lowest) => Told {
-            number: 0,
-            place: lowest,
-        },
-        Rested::Refused(refusal) => refused(refusal),
-    }
-}
-
-pub fn of_related(answer: Related) -> Told {
-    match answer {
-        Related::Ones(_) => accepted(),
-        Related::Refused(refusal) => refused(refusal),
-    }
-}
-
-pub fn of_replied(answer: Replied) -> Told {
-    match answer {
-        Replied::Blue(_) => accepted(),
-        Replied::Refused(refusal) => refused(refusal),
-    }
-}
-
-pub fn of_merged(answer: Merged) -> Told {
-    match answer {
-        Merged::Counts(_, _, _) => accepted(),
-        Merged::Refused(refusal) => refused(refusal),
+impl fmt::Display for Told {
+    fn fmt<W: fmt::Write>(&self, f: &mut fmt::Formatter<W>) -> fmt::Result {
+        let Told { number, place } = *self;
+        write!(f, "{number}@{place}")
     }
 }

@@ -4,33 +4,27 @@ ghost use Rattle.automaton.specs.Board.{from, letter};
 ghost use Rattle.simulation.specs.Answers.{entry_after};
 ghost use Rattle.simulation.specs.Moves.{targets};
 ghost use Rattle.simulation.specs.Position.{layers};
-ghost use Rattle.arena.specs.Arena.{board_in, Ready};
+ghost use Rattle.arena.specs.Game.{board, Playable};
 ghost use Rattle.arena.specs.Seats.{bare, Seated};
 ghost use Rattle.verdicts.specs.Best.{best_of, improved};
-ghost use Rattle.verdicts.specs.declared.best.Best.TheVariants.{Nothing};
 
-use arena::Arena;
+use arena::Game;
 use automaton::wide;
 
-// The state of the best move so far and the entry that it leads to.
+// A move of Blue's: the state that it leads to, and the entry there.
 #[derive(Clone, Copy)]
-pub enum Best {
-    Nothing,
-    Move(usize, u32),
+pub struct Best {
+    pub state: usize,
+    pub entry: u32,
 }
 
 // The best after one more move. An earlier move stays if its entry is as small.
-fn improve(best: Best, state: usize, entry: u32) -> Best
+fn improve(best: Option<Best>, state: usize, entry: u32) -> Best
     ensures { result ≡ improved best state entry }
 {
     match best {
-        Best::Nothing => Best::Move(state, entry),
-        Best::Move(held, least) => {
-            if entry < least {
-                return Best::Move(state, entry);
-            }
-            Best::Move(held, least)
-        }
+        Some(held) if held.entry <= entry => held,
+        _ => Best { state, entry },
     }
 }
 
@@ -39,49 +33,33 @@ fn leaves(moves: &[u8], r: usize, a: usize, i: usize) -> bool
     requires { i * 3 + 2 < length moves.now }
     ensures { result ≡ (eqb (from moves.now i) r && eqb (letter moves.now i) a) }
 {
-    let at = i * 3;
-    if wide(moves[at]) == r {
-        return wide(moves[at + 1]) == a;
-    }
-    false
+    wide(moves[i * 3]) == r && wide(moves[i * 3 + 1]) == a
 }
 
 // The entry where Blue's move to the state s leads, Red standing on q.
-fn entry_after(g: Arena, marks: &[u8], table: &[u32], b: usize, q: usize, s: usize) -> u32
-    requires seated { Seated g marks.now table.now }
-    requires b_bound { (b < layers g.mode) × (q < g.states) × (s < g.states) }
-    ensures { result ≡ entry_after (bare g marks.now) g.mode table.now b q s }
+fn entry_after(game: &Game, table: &[u32], b: usize, q: usize, s: usize) -> u32
+    requires seated { Seated game.now.arena game.now.marks.now table.now }
+    requires position { (b < layers game.now.arena.mode) × (q < game.now.arena.states) × (s < game.now.arena.states) }
+    ensures { result ≡ entry_after (bare game.now.arena game.now.marks.now) game.now.arena.mode table.now b q s }
 {
-    let states = g.states;
-    let mode = g.mode;
-    let bit = arena::eased(mode, marks[s] == 1, b);
+    let states = game.arena.states;
+    let bit = arena::eased(game.arena.mode, game.marks[s] == 1, b);
     table[bit * (states * states) + q * states + s]
 }
 
 // The best of the moves from r by the letter a.
-pub fn scan(
-    g: Arena,
-    marks: &[u8],
-    moves: &[u8],
-    table: &[u32],
-    b: usize,
-    q: usize,
-    r: usize,
-    a: usize,
-) -> Best
-    requires ready { Ready g marks.now moves.now table.now }
-    requires b_bound { (b < layers g.mode) × (q < g.states) }
-    ensures { result ≡ best_of (entry_after (board_in g marks.now moves.now) g.mode table.now b q) Nothing (targets (board_in g marks.now moves.now) r a) }
+pub fn scan(game: &Game, table: &[u32], b: usize, q: usize, r: usize, a: usize) -> Option<Best>
+    requires playable { Playable game.now table.now }
+    requires position { (b < layers game.now.arena.mode) × (q < game.now.arena.states) }
+    ensures { result ≡ best_of (entry_after (board game.now) game.now.arena.mode table.now b q) None (targets (board game.now) r a) }
 {
-    let count = moves.len() / 3;
-    let mut best = Best::Nothing;
-    let mut i = 0;
-    while i < count {
+    let moves = game.moves;
+    let mut best = None;
+    for i in 0..moves.len() / 3 {
         if leaves(moves, r, a, i) {
             let s = wide(moves[i * 3 + 2]);
-            best = improve(best, s, entry_after(g, marks, table, b, q, s));
+            best = Some(improve(best, s, entry_after(game, table, b, q, s)));
         }
-        i += 1;
     }
     best
 }

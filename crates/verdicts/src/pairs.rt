@@ -1,41 +1,30 @@
 // The bytes of the relation, read off the table.
-ghost use Rattle.std.specs.Prelude.{◌≡◌, ◌*◌, ◌<◌, length};
-ghost use Rattle.simulation.specs.Answers.{byte_at, related, relation};
-ghost use Rattle.arena.specs.Seats.{bare, Seated};
+ghost use Rattle.std.specs.Prelude.{◌≡◌, ◌*◌, ◌/◌, ◌%◌, ◌<◌, length};
+ghost use Rattle.simulation.specs.Answers.{below, related, relation};
+ghost use Rattle.arena.specs.Seats.{bare};
 
-use arena::Arena;
-use automaton::wide;
+use arena::Seating;
 
-// The byte of pair i: 1 if its beginning is below T.
-fn byte_at(g: Arena, marks: &[u8], table: &[u32], i: usize) -> u8
-    requires seated { Seated g marks.now table.now }
-    requires i_bound { i < g.states * g.states }
-    ensures { result ≡ byte_at (bare g marks.now) g.mode table.now i }
+// Is the beginning of pair i below T?
+fn is_below(seats: &Seating, i: usize) -> bool
+    requires { i < seats.now.arena.states * seats.now.arena.states }
+    ensures { result ≡ below (bare seats.now.arena seats.now.marks.now) seats.now.arena.mode seats.now.table.now (i / seats.now.arena.states) (i % seats.now.arena.states) }
 {
-    let states = g.states;
-    let mode = g.mode;
-    let top = g.top;
-    let b = arena::owed(mode, marks[i / states] == 1, marks[i % states] == 1);
-    if table[b * (states * states) + i] < top {
-        return 1;
-    }
-    0
+    let states = seats.arena.states;
+    seats.entry(i / states, i % states) < seats.arena.top
 }
 
-// Writes the byte of each pair: how many are 1.
-pub fn fill(g: Arena, marks: &[u8], table: &[u32], out: &mut [u8]) -> usize
-    requires seated { Seated g marks.now table.now }
-    requires out_len { length out.old ≡ g.states * g.states }
-    ensures value { result ≡ related (bare g marks.now) g.mode table.now }
-    ensures out_after { out.new ≡ relation (bare g marks.now) g.mode table.now }
+// Writes the byte of each pair, 1 if its beginning is below T: how many are 1.
+pub fn fill(seats: &Seating, out: &mut [u8]) -> usize
+    requires { length out.old ≡ seats.now.arena.states * seats.now.arena.states }
+    ensures value { result ≡ related (bare seats.now.arena seats.now.marks.now) seats.now.arena.mode seats.now.table.now }
+    ensures out_after { out.new ≡ relation (bare seats.now.arena seats.now.marks.now) seats.now.arena.mode seats.now.table.now }
 {
     let mut ones = 0;
-    let mut i = 0;
-    while i < out.len() {
-        let byte = byte_at(g, marks, table, i);
-        out[i] = byte;
-        ones += wide(byte);
-        i += 1;
+    for (i, byte) in out.iter_mut().enumerate() {
+        let related = is_below(seats, i);
+        *byte = u8::from(related);
+        ones += usize::from(related);
     }
     ones
 }

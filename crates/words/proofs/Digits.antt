@@ -1,12 +1,7 @@
 -- The laws of digits: what the machine's operations on words do to them.
-use mathlib.Core.Path.{◌≡◌, refl, ap, ◌∙◌}
-use mathlib.Core.Logic.{◌≢◌}
-use Prim.Native.Nat.{ℕ, zero, suc, ◌+◌, ◌*◌, ◌-◌, ◌/◌, ◌%◌, ◌^◌, ◌≤◌, ◌<◌, min, max}
-use native.Mathlib.Nat.{pow-suc}
-use native.Mathlib.Omega.{arith}
-use lib.Bits.{bit_and, bit_or, and_step, or_step, and_self}
+use Rattle.std.proofs.Common.{◌≡◌, refl, ap, ◌∙◌, ◌≢◌, ℕ, zero, suc, ◌+◌, ◌*◌, ◌-◌, ◌/◌, ◌%◌, ◌^◌, ◌≤◌, ◌<◌, min, max, pow-suc, arith, bit_and, bit_or, shr-shr}
+use lib.Bits.{and_step, or_step, and_self}
 use lib.Count.{count_trailing_zeros, under}
-use lib.Pow.{shr-shr}
 use Rattle.words.specs.Word.{dig}
 
 pub dig_le : (x i : ℕ) → dig x i ≤ 1

@@ -1,12 +1,8 @@
 -- What the machine's operations make of sets.
-use mathlib.Core.Path.{◌≡◌, ap, ◌∙◌}
-use mathlib.Core.Logic.{◌≢◌, ◌⊎◌, inl, inr}
-use Prim.Native.Nat.{ℕ, ◌+◌, ◌*◌, ◌-◌, ◌/◌, ◌%◌, ◌^◌, ◌≤◌, ◌<◌, min}
-use native.Mathlib.Nat.{one-mul, mod-eq_of_lt}
-use native.Mathlib.Omega.{arith}
-use lib.Bits.{bit_and, bit_or, and_mask}
+use Rattle.std.proofs.Common.{◌≡◌, ap, ◌∙◌, ◌≢◌, ◌⊎◌, inl, inr, ℕ, ◌+◌, ◌*◌, ◌-◌, ◌/◌, ◌%◌, ◌^◌, ◌≤◌, ◌<◌, min, one-mul, mod-eq_of_lt, arith, bit_and, bit_or, pow_pos}
+use lib.Bits.{and_mask}
 use lib.Count.{count_trailing_zeros}
-use lib.Pow.{pow-lt, pow_pos, ones_lt}
+use lib.Pow.{pow-lt, ones_lt}
 use Rattle.words.specs.Word.{dig, In, Pop, Minus, With, Below, Joined, Met}
 use Rattle.words.proofs.Digits.{dig_le, dig-zero, dig-or, dig-and, dig-one, dig-other, dig-not, dig-less, dig_shr, dig-bound, dig-most, low_set, drop_low}
 use Rattle.words.proofs.Sets.{in_or-out}

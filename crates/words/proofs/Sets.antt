@@ -1,9 +1,6 @@
 -- What follows for members from the answers of the calls on sets.
-use mathlib.Core.Path.{◌≡◌, refl, sym, ◌∙◌}
-use mathlib.Core.Logic.{◌⊎◌, inl, inr}
-use Prim.Native.Nat.{ℕ, zero, suc, ◌^◌, ◌≤◌, ◌<◌}
+use Rattle.std.proofs.Common.{◌≡◌, refl, sym, ◌∙◌, ◌⊎◌, inl, inr, ℕ, zero, suc, ◌^◌, ◌≤◌, ◌<◌, arith}
 use native.Mathlib.Decide.{ℕ_discrete}
-use native.Mathlib.Omega.{arith}
 use Rattle.words.specs.Word.{dig, In, Pop, Minus, With, Joined, Met}
 use Rattle.words.proofs.Digits.{dig_le, dig-zero, dig-bound}
 

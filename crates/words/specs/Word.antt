@@ -1,5 +1,6 @@
 -- Sets of numbers as words: digit x of a word is 1 where x is a member. What the calls on sets answer.
-use Rattle.std.specs.Prelude.{◌≡◌, ◌≢◌, ℕ, zero, suc, ◌-◌, ◌/◌, ◌%◌, ◌≤◌, ◌<◌, min, max}
+use Rattle.std.specs.Prelude.{◌≡◌, ◌≢◌, ℕ, zero, suc, ◌-◌, ◌/◌, ◌%◌, ◌≤◌, ◌<◌, min, max, Option, MatchOption}
+use Rattle.std.specs.Int.Count.{count_trailing_zeros}
 
 -- digit i of x, the lowest first
 unfoldable pub dig : (x i : ℕ) → ℕ
@@ -17,6 +18,10 @@ pub record Pop (m j r : ℕ) : Type 0 where
   pub gone : dig r j ≡ 0
   pub other : (i : ℕ) → i ≢ j → dig r i ≡ dig m i
   pub less : r < m
+
+-- a step through the set m: its lowest member, which leaves r, or none of an empty set, which leaves it empty
+abbrev pub Visits : (m : ℕ) → Option ℕ → (r : ℕ) → Type 0
+Visits m x r = MatchOption x ((m ≡ 0) × (r ≡ 0)) (λ j. (j ≡ count_trailing_zeros 64 m) × Pop m j r)
 
 -- r holds the members of a that are not in b, and as a number it is no greater than a
 pub record Minus (a b r : ℕ) : Type 0 where

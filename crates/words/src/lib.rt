@@ -4,14 +4,15 @@
 ghost use Rattle.std.specs.Prelude.{◌≡◌, ◌≢◌, ◌≤◌, ◌<◌, eqb};
 ghost use Rattle.std.specs.Int.Count.{count_trailing_zeros};
 ghost use Rattle.words.specs.Sum.{sum};
-ghost use Rattle.words.specs.Word.{dig, Pop, Minus, With, Below, Joined, Met};
+ghost use Rattle.std.specs.Iterator.{at_most};
+ghost use Rattle.words.specs.Word.{dig, Pop, Minus, With, Below, Joined, Met, Visits};
 
 // The lowest member of a set that is not empty.
 pub fn lowest(m: u64) -> usize
     requires { m ≢ 0 }
     ensures { result ≡ count_trailing_zeros 64 m }
 {
-    u64::trailing_zeros(m) as usize
+    m.trailing_zeros() as usize
 }
 
 // The set without its lowest member.
@@ -51,7 +52,7 @@ pub fn below(n: usize) -> u64
     ensures { Below n result }
 {
     if n == 64 {
-        return 18446744073709551615;
+        return u64::MAX;
     }
     (1u64 << n) - 1
 }
@@ -74,5 +75,37 @@ pub fn meet(a: u64, b: u64) -> u64
 pub fn size(m: u64) -> usize
     ensures { result ≡ sum (dig m) 64 }
 {
-    u64::count_ones(m) as usize
+    m.count_ones() as usize
+}
+
+// The members of a set that are still to come, the lowest first.
+#[derive(Drop)]
+pub struct Iter {
+    pub left: u64,
+}
+
+// The members of a set, one by one.
+#[inline(always)]
+pub fn members(m: u64) -> Iter
+    ensures { result.left ≡ m }
+{
+    Iter { left: m }
+}
+
+impl Iterator for Iter {
+    type Item = usize;
+
+    ghost next_gives = { λ s x t. Visits s.left x t.left };
+
+    ghost remaining = { λ s. at_most s.left };
+
+    #[inline(always)]
+    fn next(&mut self) -> Option<usize> {
+        if self.left == 0 {
+            return None;
+        }
+        let x = lowest(self.left);
+        self.left = rest(self.left);
+        Some(x)
+    }
 }

@@ -1,57 +1,58 @@
--- `arena::enter` meets its contract: what `check` and `named` answered decides the refusal, and the arena has the game's numbers.
-use mathlib.Core.Path.{◌≡◌, sym, ap, ◌∙◌}
-use mathlib.Core.List.{[]}
-use Prim.Native.Nat.{ℕ}
+-- `arena::enter` meets its contract: what `check` and the mode's number answered decides the refusal, and the arena has the game's numbers.
+use Rattle.std.proofs.Common.{◌≡◌, ap, ◌∙◌, ℕ, [], Ok, Some, None, arith}
+use Rattle.std.proofs.lemmas.Result.{err_from_is_err_and}
 use Rattle.automaton.specs.Answer.{none}
-use Rattle.automaton.specs.Board.{Board, board_of, Formed}
 use Rattle.automaton.specs.Check.{automaton_fault, checked}
+use Rattle.automaton.specs.Limits.{name_of}
+use Rattle.automaton.specs.declared.Mode.{Mode}
+use Rattle.automaton.specs.declared.Refusal.TheVariants.{ModeNumber}
 use Rattle.automaton.proofs.One.{checked-none, checked-fault}
 use Rattle.automaton.proofs.Sound.{automaton-line}
-use Rattle.arena.specs.declared.Opened.TheVariants.{Open}
 use Rattle.arena.specs.Job.{Job, job_of}
-use Rattle.arena.specs.Arena.{arena_of}
+use Rattle.arena.specs.Arena.{arena_of, entered}
 use Rattle.arena.proofs.Open.{ceiling-moves, entered-refused, entered_unknown, entered-known}
 use Rattle.arena.proofs.enter.Goals as goal
 
-pub returns-in-Refused : goal.returns-in-Refused
+pub returns-in_err-check : goal.returns-in_err-check
 unfolding checked
-returns-in-Refused c =
-    let job : Job = job_of c.args.a c.args.marks.now c.args.moves.now c.args.mode in
-    entered-refused (job) c.in-Refused.refusal (checked-fault _ c.check-checked.result c.in-Refused.refusal c.in-Refused.is c.check-checked.ensures)
+returns-in_err-check c =
+    let j : Job = job_of c.job.inside.automaton c.job.inside.marks.now c.job.inside.moves.now c.job.inside.mode in
+    let p = err_from_is_err_and c.from_residual.result c.from_residual.ensures.1 in
+    rw (p.1, p.2) (entered-refused j _ (checked-fault _ c.check.result _ c.in_err-check.was c.check.ensures)) ∙ ap entered c.job.view_is
 
 pub pairs_of-requires : goal.pairs_of-requires
 unfolding checked
 pairs_of-requires c =
-    let board : Board = board_of c.args.a c.args.marks.now c.args.moves.now in
-    let faultless : automaton_fault (board) c.args.a.start ≡ none = checked-none _ c.check-checked.result c.in-Sound.is c.check-checked.ensures in
-    let formed : Formed (board) = ((automaton-line (board) c.args.a.start).0 (faultless)).0 in
-    formed.few
+    let j : Job = job_of c.job.inside.automaton c.job.inside.marks.now c.job.inside.moves.now c.job.inside.mode in
+    let faultless : automaton_fault j.board j.start ≡ none = checked-none _ c.check.result c.in_ok-check.was c.check.ensures in
+    ((automaton-line j.board j.start).0 faultless).0.few
 
 pub top-requires : goal.top-requires
 unfolding checked
 top-requires c =
-    let board : Board = board_of c.args.a c.args.marks.now c.args.moves.now in
-    let faultless : automaton_fault (board) c.args.a.start ≡ none = checked-none _ c.check-checked.result c.in-Sound.is c.check-checked.ensures in
-    let formed : Formed (board) = ((automaton-line (board) c.args.a.start).0 (faultless)).0 in
-    let F = formed in
+    let j : Job = job_of c.job.inside.automaton c.job.inside.marks.now c.job.inside.moves.now c.job.inside.mode in
+    let faultless : automaton_fault j.board j.start ≡ none = checked-none _ c.check.result c.in_ok-check.was c.check.ensures in
+    let F = ((automaton-line j.board j.start).0 faultless).0 in
     record { states_le_most_states = F.few; marks_len = F.marked }
 
-pub returns-in-Unknown : goal.returns-in-Unknown
+pub returns-in_err-mode : goal.returns-in_err-mode
 unfolding checked
-returns-in-Unknown c =
-    let board : Board = board_of c.args.a c.args.marks.now c.args.moves.now in
-    let job : Job = job_of c.args.a c.args.marks.now c.args.moves.now c.args.mode in
-    let faultless : automaton_fault (board) c.args.a.start ≡ none = checked-none _ c.check-checked.result c.in-Sound.is c.check-checked.ensures in
-    entered_unknown (job) (faultless) (sym c.named-named.ensures ∙ c.in-Unknown.is)
+returns-in_err-mode c =
+    let j : Job = job_of c.job.inside.automaton c.job.inside.marks.now c.job.inside.moves.now c.job.inside.mode in
+    let faultless : automaton_fault j.board j.start ≡ none = checked-none _ c.check.result c.in_ok-check.was c.check.ensures in
+    let p = err_from_is_err_and c.from_residual-in_err-mode.result c.from_residual-in_err-mode.ensures.1 in
+    let unknown : name_of j.mode ≡ None = grind (arith, c.in_err-mode.ensures) in
+    let refusal : c.in_err-mode.field-0.0 ≡ ModeNumber = grind (arith, c.in_err-mode.ensures) in
+    rw (p.1, p.2, refusal) (entered_unknown j faultless unknown) ∙ ap entered c.job.view_is
 
-pub returns-in-Known : goal.returns-in-Known
+pub returns : goal.returns
 unfolding checked
-returns-in-Known c =
-    let board : Board = board_of c.args.a c.args.marks.now c.args.moves.now in
-    let job : Job = job_of c.args.a c.args.marks.now c.args.moves.now c.args.mode in
-    let faultless : automaton_fault (board) c.args.a.start ≡ none = checked-none _ c.check-checked.result c.in-Sound.is c.check-checked.ensures in
-    let j = job in
-    let e = entered-known j c.in-Known.known (faultless) (sym c.named-named.ensures ∙ c.in-Known.is) in
-    ap (λ (p : ℕ). Open (record { states = j.board.n; letters = j.board.k; mode = c.in-Known.known; pairs = p; top = c.top.result })) c.pairs_of.ensures
-    ∙ ap (λ (t : ℕ). Open (record { states = j.board.n; letters = j.board.k; mode = c.in-Known.known; pairs = (arena_of j.board c.in-Known.known).pairs; top = t })) (c.top.ensures ∙ ceiling-moves j.board.n j.board.k j.board.marks [] j.board.moves c.in-Known.known)
-    ∙ e
+returns c =
+    let j : Job = job_of c.job.inside.automaton c.job.inside.marks.now c.job.inside.moves.now c.job.inside.mode in
+    let faultless : automaton_fault j.board j.start ≡ none = checked-none _ c.check.result c.in_ok-check.was c.check.ensures in
+    let m : Mode = c.in_ok-mode.mode in
+    let known : name_of j.mode ≡ Some m = grind (arith, c.in_ok-mode.ensures) in
+    ap (λ (p : ℕ). Ok (record { states = j.board.n; letters = j.board.k; mode = m; pairs = p; top = c.top.result })) c.pairs_of.ensures
+    ∙ ap (λ (t : ℕ). Ok (record { states = j.board.n; letters = j.board.k; mode = m; pairs = (arena_of j.board m).pairs; top = t })) (c.top.ensures ∙ ceiling-moves j.board.n j.board.k j.board.marks [] j.board.moves m)
+    ∙ entered-known j m faultless known
+    ∙ ap entered c.job.view_is

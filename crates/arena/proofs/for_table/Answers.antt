@@ -1,28 +1,18 @@
 -- `arena::for_table` meets its contract: what `enter` gave is held against the length.
-use mathlib.Core.Path.{◌≡◌, sym, ◌∙◌}
-use Rattle.arena.specs.declared.Arena.{Arena}
-use Rattle.arena.specs.declared.Opened.TheVariants.{Open}
-use Rattle.arena.specs.Job.{Job, job_of}
-use Rattle.arena.specs.Arena.{entered}
+use Rattle.std.proofs.Common.{sym, ◌∙◌}
+use Rattle.std.proofs.lemmas.Result.{err_from_is_err_and}
 use Rattle.arena.proofs.Open.{enter_small, opened_shut, opened-fitted}
 use Rattle.arena.proofs.for_table.Goals as goal
 
 pub fit-requires : goal.fit-requires
 fit-requires c =
-    let job : Job = job_of c.args.a c.args.marks.now c.args.moves.now c.args.mode in
-    let arena : Arena = c.in-Open.g in
-    let is-entered : entered (job) ≡ Open (arena) = sym c.enter-entered.ensures ∙ c.in-Open.is in
-    let both = enter_small (job) (arena) (is-entered) in
+    let both = enter_small c.args.job.now c.in_ok-g.g (sym c.in_ok-g.ensures) in
     record { pairs_bound = both.0; letters_le_most_letters = both.1 }
 
-pub returns-in-Shut : goal.returns-in-Shut
-returns-in-Shut c =
-    let job : Job = job_of c.args.a c.args.marks.now c.args.moves.now c.args.mode in
-    opened_shut (job) c.args.entries c.in-Shut.refusal (sym c.enter-entered.ensures ∙ c.in-Shut.is)
+pub returns-in_err-g : goal.returns-in_err-g
+returns-in_err-g c =
+    let p = err_from_is_err_and c.from_residual.result c.from_residual.ensures.1 in
+    rw (p.1, p.2) (opened_shut c.args.job.now c.args.entries _ (sym c.in_err-g.ensures))
 
-pub returns-in-Open : goal.returns-in-Open
-returns-in-Open c =
-    let job : Job = job_of c.args.a c.args.marks.now c.args.moves.now c.args.mode in
-    let arena : Arena = c.in-Open.g in
-    let is-entered : entered (job) ≡ Open (arena) = sym c.enter-entered.ensures ∙ c.in-Open.is in
-    c.fit.ensures ∙ opened-fitted (job) c.args.entries (arena) (is-entered)
+pub returns : goal.returns
+returns c = c.fit.ensures ∙ opened-fitted c.args.job.now c.args.entries c.in_ok-g.g (sym c.in_ok-g.ensures)

@@ -1,12 +1,11 @@
--- `arena::positions` meets its contract: what `limits` and `named` answered decides the refusal.
-use mathlib.Core.Path.{◌≡◌, sym, ap, ◌∙◌}
-use mathlib.Core.List.{List, [], ◌∷◌}
-use Prim.Native.Nat.{◌≤◌}
-use native.Mathlib.Omega.{arith}
+-- `arena::positions` meets its contract: what `limits` and the mode's number answered decides the refusal.
+use Rattle.std.proofs.Common.{◌≡◌, sym, ap, ◌∙◌, List, [], ◌∷◌, Some, None, arith}
+use Rattle.std.proofs.lemmas.Result.{err_from_is_err_and}
 use Rattle.automaton.specs.Answer.{Answer, valued, Fault, none, first_fault, unless}
 use Rattle.automaton.specs.Board.{board_of}
 use Rattle.automaton.specs.Check.{states_fault, letters_fault, mode_fault, limited}
-use Rattle.automaton.specs.Limits.{most_states, most_letters}
+use Rattle.automaton.specs.Limits.{name_of}
+use Rattle.automaton.specs.declared.Refusal.TheVariants.{ModeNumber}
 use Rattle.automaton.proofs.Fault.{faults_passed, faults_stopped}
 use Rattle.automaton.proofs.One.{checked-none, checked-fault}
 use Rattle.automaton.proofs.Sound.{limits-line}
@@ -15,48 +14,52 @@ use Rattle.simulation.proofs.Limits.{pairs-most}
 use Rattle.arena.specs.Job.{mode_of}
 use Rattle.arena.proofs.positions.Goals as goal
 
-pub returns-in-Refused : goal.returns-in-Refused
+pub returns-in_err-limits : goal.returns-in_err-limits
 unfolding limited
-returns-in-Refused c =
+returns-in_err-limits c =
     let limit-lines : List Fault = states_fault c.args.a.states ∷ letters_fault c.args.a.letters ∷ [] in
     let mode-line : List Fault = mode_fault c.args.mode ∷ [] in
     let sized : Answer = valued (positions (board_of c.args.a [] []) (mode_of c.args.mode)) in
-    let e = checked-fault (first_fault (limit-lines)) c.limits-limited.result c.in-Refused.refusal c.in-Refused.is c.limits-limited.ensures in
-    sym (ap (λ f. unless f (sized)) (faults_stopped (limit-lines) (mode-line) c.in-Refused.refusal e))
+    let p = err_from_is_err_and c.from_residual.result c.from_residual.ensures.1 in
+    let e = checked-fault (first_fault limit-lines) c.limits.result _ c.in_err-limits.was c.limits.ensures in
+    rw (p.1, p.2) (sym (ap (λ f. unless f sized) (faults_stopped limit-lines mode-line _ e)))
 
-pub pairs_of-requires : goal.pairs_of-requires
+pub pairs_of-pairs-requires : goal.pairs_of-pairs-requires
 unfolding limited
-pairs_of-requires c =
+pairs_of-pairs-requires c =
     let limit-lines : List Fault = states_fault c.args.a.states ∷ letters_fault c.args.a.letters ∷ [] in
-    let within : first_fault (limit-lines) ≡ none = checked-none (first_fault (limit-lines)) c.limits-limited.result c.in-Sound.is c.limits-limited.ensures in
-    let within-limits : (c.args.a.states ≤ most_states) × (c.args.a.letters ≤ most_letters) =
-    let l = (limits-line c.args.a.states c.args.a.letters).0 (within) in (l.0.1, l.1.1) in
-    within-limits.0
+    let within : first_fault limit-lines ≡ none = checked-none (first_fault limit-lines) c.limits.result c.in_ok-limits.was c.limits.ensures in
+    ((limits-line c.args.a.states c.args.a.letters).0 within).0.1
 
 pub size-requires : goal.size-requires
 unfolding limited
 size-requires c =
     let limit-lines : List Fault = states_fault c.args.a.states ∷ letters_fault c.args.a.letters ∷ [] in
-    let within : first_fault (limit-lines) ≡ none = checked-none (first_fault (limit-lines)) c.limits-limited.result c.in-Sound.is c.limits-limited.ensures in
-    let within-limits : (c.args.a.states ≤ most_states) × (c.args.a.letters ≤ most_letters) =
-    let l = (limits-line c.args.a.states c.args.a.letters).0 (within) in (l.0.1, l.1.1) in
-    let few = within-limits in
-    record { pairs_bound = omega (arith, c.pairs_of.ensures, pairs-most (board_of c.args.a [] []) c.in-Known.known few.0); letters_le_most_letters = few.1 }
+    let within : first_fault limit-lines ≡ none = checked-none (first_fault limit-lines) c.limits.result c.in_ok-limits.was c.limits.ensures in
+    let few = (limits-line c.args.a.states c.args.a.letters).0 within in
+    record {
+      pairs_bound = omega (arith, c.pairs_of-pairs.ensures, pairs-most (board_of c.args.a [] []) c.in_ok-try_from.field-0 few.0.1);
+      letters_le_most_letters = few.1.1;
+    }
 
-pub returns-in-Unknown : goal.returns-in-Unknown
+pub returns-in_err-try_from : goal.returns-in_err-try_from
 unfolding limited
-returns-in-Unknown c =
+returns-in_err-try_from c =
     let limit-lines : List Fault = states_fault c.args.a.states ∷ letters_fault c.args.a.letters ∷ [] in
     let mode-line : List Fault = mode_fault c.args.mode ∷ [] in
     let sized : Answer = valued (positions (board_of c.args.a [] []) (mode_of c.args.mode)) in
-    let within : first_fault (limit-lines) ≡ none = checked-none (first_fault (limit-lines)) c.limits-limited.result c.in-Sound.is c.limits-limited.ensures in
-    sym (ap (λ f. unless f (sized)) (faults_passed (limit-lines) (mode-line) (within)) ∙ simp (sym c.named-named.ensures, c.in-Unknown.is))
+    let within : first_fault limit-lines ≡ none = checked-none (first_fault limit-lines) c.limits.result c.in_ok-limits.was c.limits.ensures in
+    let p = err_from_is_err_and c.from_residual-in_err-try_from.result c.from_residual-in_err-try_from.ensures.1 in
+    let unknown : name_of c.args.mode ≡ None = grind (arith, c.in_err-try_from.ensures) in
+    let refusal : c.in_err-try_from.field-0.0 ≡ ModeNumber = grind (arith, c.in_err-try_from.ensures) in
+    rw (p.1, p.2, refusal) (sym (ap (λ f. unless f sized) (faults_passed limit-lines mode-line within) ∙ simp unknown))
 
-pub returns-in-Known : goal.returns-in-Known
+pub returns : goal.returns
 unfolding limited
-returns-in-Known c =
+returns c =
     let limit-lines : List Fault = states_fault c.args.a.states ∷ letters_fault c.args.a.letters ∷ [] in
     let mode-line : List Fault = mode_fault c.args.mode ∷ [] in
     let sized : Answer = valued (positions (board_of c.args.a [] []) (mode_of c.args.mode)) in
-    let within : first_fault (limit-lines) ≡ none = checked-none (first_fault (limit-lines)) c.limits-limited.result c.in-Sound.is c.limits-limited.ensures in
-    sym (ap (λ f. unless f (sized)) (faults_passed (limit-lines) (mode-line) (within)) ∙ simp (sym c.named-named.ensures, c.in-Known.is, c.size.ensures, c.pairs_of.ensures))
+    let within : first_fault limit-lines ≡ none = checked-none (first_fault limit-lines) c.limits.result c.in_ok-limits.was c.limits.ensures in
+    let known : name_of c.args.mode ≡ Some c.in_ok-try_from.field-0 = grind (arith, c.in_ok-try_from.ensures) in
+    sym (ap (λ f. unless f sized) (faults_passed limit-lines mode-line within) ∙ simp (known, c.size.ensures, c.pairs_of-pairs.ensures))

@@ -1,16 +1,16 @@
--- `automaton::first_outside` meets its contract. The invariant: the first outside move from i on is the first of all.
--- The measure is the number of moves left.
-use mathlib.Core.Path.{sym, ◌∙◌}
-use borrow.Author.Rules.{rules}
-use Rattle.automaton.proofs.First.{first-here, first_passed, first-end}
+-- `automaton::first_outside` meets its contract: `find` stops at the first number that the test is true of.
+use Rattle.std.proofs.Common.{ℕ, ◌/◌, length, arith, refl, sym, ◌∙◌, rules, tests}
+use Rattle.std.proofs.lemmas.Iterator.{YieldsList-from_range}
+use Rattle.std.proofs.lemmas.Iterator.Adapters.{option_map_id}
+use Rattle.std.proofs.lemmas.Iterator.Search.{find_from_yields_List}
+use Rattle.automaton.specs.Board.{outside}
+use Rattle.automaton.proofs.First.{first_below-find}
 use Rattle.automaton.proofs.first_outside.Goals as goal
 
-pub returns-then-is_outside : goal.returns-then-is_outside
-returns-then-is_outside c = sym (first-here _ _ _ (sym c.is_outside.ensures ∙ c.if-is_outside.true)) ∙ c.loop-i.invariant.2
-
-pub loop-i-preserved : goal.loop-i-preserved
-loop-i-preserved c =
-    (search rules, search rules, first_passed _ _ _ c.loop-i-test.true (sym c.is_outside.ensures ∙ c.if-is_outside.false) ∙ c.loop-i.invariant.2)
-
 pub returns : goal.returns
-returns c = sym (first-end _ _ _ c.loop-i-test.false) ∙ c.loop-i.invariant.2
+returns c =
+    let test = outside c.args.a.states c.args.a.letters c.args.moves.now in
+    let count : ℕ = length c.args.moves.now / 3 in
+    sym (option_map_id _)
+    ∙ find_from_yields_List test _ _ c.find.result c.find.ensures.ran (YieldsList-from_range 0 count count refl (omega arith)) (λ x b q k. search (rules, tests))
+    ∙ first_below-find test count

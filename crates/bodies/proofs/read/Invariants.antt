@@ -1,6 +1,5 @@
 -- `read` meets its contract: what reading comes to from the token that is next, it comes to from the first.
-use Prim.Native.Nat.{◌≤◌, ◌-◌}
-use lib.ListN.{length}
+use Rattle.std.proofs.Common.{◌≤◌, ◌-◌, length}
 use Rattle.bodies.proofs.Going.{Going}
 use Rattle.bodies.proofs.read.Given as goal
 

@@ -1,30 +1,17 @@
--- `entries::first_restless` meets its contract. The invariant: the first restless position from v on is the first of all.
--- The measure is the number of positions left.
-use borrow.Author.Rules.{rules}
-use mathlib.Core.Path.{sym, ◌∙◌}
-use Prim.Native.Nat.{ℕ, ◌≤◌, ◌<◌}
-use native.Mathlib.Omega.{arith}
-use borrow.Author.Tests.{lt-ltb, le-ltb}
-use Rattle.games.specs.Game.{Game, asked, at}
-use Rattle.automaton.proofs.First.{first-here, first_passed, first-end}
-use Rattle.arena.specs.Arena.{game_in}
+-- `entries::first_restless` meets its contract: `find` stops at the first number that the test is true of.
+use Rattle.std.proofs.Common.{ℕ, length, arith, refl, sym, ◌∙◌, rules, tests}
+use Rattle.std.proofs.lemmas.Iterator.{YieldsList-from_range}
+use Rattle.std.proofs.lemmas.Iterator.Adapters.{option_map_id}
+use Rattle.std.proofs.lemmas.Iterator.Search.{find_from_yields_List}
+use Rattle.automaton.proofs.First.{first_below-find}
+use Rattle.arena.specs.Game.{played}
+use Rattle.entries.specs.Found.{restless}
 use Rattle.entries.proofs.first_restless.Goals as goal
 
-pub returns-then-table-v : goal.returns-then-table-v
-returns-then-table-v c =
-    let game : Game = game_in c.args.g c.args.marks.now c.args.moves.now in
-    let entry : ℕ = at c.args.table.now c.loop-v.v in
-    let wanted : ℕ = asked (game) (at c.args.table.now) c.loop-v.v in
-    let more : entry < wanted = omega (arith, c.if-table-v.true, c.asked.ensures) in
-    sym (first-here _ _ _ (lt-ltb (entry) (wanted) more)) ∙ c.loop-v.invariant.1
-
-pub loop-v-preserved : goal.loop-v-preserved
-loop-v-preserved c =
-    let game : Game = game_in c.args.g c.args.marks.now c.args.moves.now in
-    let entry : ℕ = at c.args.table.now c.loop-v.v in
-    let wanted : ℕ = asked (game) (at c.args.table.now) c.loop-v.v in
-    let rests : wanted ≤ entry = omega (arith, c.if-table-v.false, c.asked.ensures) in
-    (search rules, first_passed _ _ _ c.loop-v-test.true (le-ltb (entry) (wanted) rests) ∙ c.loop-v.invariant.1)
-
 pub returns : goal.returns
-returns c = sym (first-end _ _ _ c.loop-v-test.false) ∙ c.loop-v.invariant.1
+returns c =
+    let test = restless (played c.args.index.now.game) c.args.table.now in
+    let count : ℕ = length c.args.table.now in
+    sym (option_map_id _)
+    ∙ find_from_yields_List test _ _ c.find.result c.find.ensures.ran (YieldsList-from_range 0 count count refl (omega arith)) (λ x b q k. search (rules, tests))
+    ∙ first_below-find test count

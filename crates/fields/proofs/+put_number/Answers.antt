@@ -1,7 +1,5 @@
 -- `fields::put_number` meets its contract: the digits of v / 10, and the last one behind them. The number falls at each call.
-use mathlib.Core.Path.{sym, ap, ◌∙◌}
-use mathlib.Core.List.{List, [], ◌∷◌}
-use Prim.Native.Nat.{ℕ, ◌+◌, ◌/◌, ◌%◌}
+use Rattle.std.proofs.Common.{sym, ap, ◌∙◌, List, [], ◌∷◌, ℕ, ◌+◌, ◌/◌, ◌%◌}
 use Rattle.fields.specs.Bytes.{laid, stop}
 use Rattle.fields.specs.Numbers.{shown}
 use Rattle.fields.proofs.Laid.{then_stop, then_laid}

@@ -1,5 +1,5 @@
 -- `fields::put` meets its contract: a store where there is room, and nothing past the end.
-use mathlib.Core.Path.{sym}
+use Rattle.std.proofs.Common.{sym}
 use Rattle.fields.proofs.Laid.{stop-one, stop-past, laid_one, laid-past}
 use Rattle.fields.proofs.put.Goals as goal
 

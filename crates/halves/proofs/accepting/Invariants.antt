@@ -1,11 +1,6 @@
--- `halves::accepting` meets its contract. The invariant: the word holds the states below q with mark 1. The measure is the number of marks left.
-use Prim.Native.Nat.{◌-◌, ◌≤◌}
-use lib.ListN.{length}
+-- `halves::accepting` meets its contract. The invariant: the word holds the states below q with mark 1.
 use Rattle.halves.proofs.Drawing.{Seen}
 use Rattle.halves.proofs.accepting.Given as goal
 
 abbrev pub invariant-loop-q : goal.invariant-loop-q
-invariant-loop-q l = (l.q ≤ length l.marks) × Seen l.marks l.acc l.q
-
-abbrev pub decreases-loop-q : goal.decreases-loop-q
-decreases-loop-q l = length l.marks - l.q
+invariant-loop-q l = Seen l.game.marks.now l.acc l.q

@@ -1,48 +1,47 @@
--- `halves::draw` meets its contract. The invariant: the first i moves are drawn in both lists of words, and nothing else is. The measure is the
--- number of moves left.
-use mathlib.Core.Path.{◌≡◌, refl, ◌∙◌}
-use Prim.Native.Nat.{ℕ, ◌+◌, ◌*◌, ◌/◌}
-use native.Mathlib.Omega.{arith}
-use lib.ListN.{length}
-use Rattle.automaton.specs.Board.{from, letter, to}
-use Rattle.arena.specs.declared.Arena.{Arena}
-use Rattle.arena.specs.Arena.{board_in}
-use Rattle.halves.proofs.Drawing.{drawn-none, drawn-more, into_drawn, onto-drawn}
+-- `halves::draw` meets its contract. The invariant: some first moves are drawn in both lists of words, and nothing else is, and the others are left.
+use Rattle.std.proofs.Common.{◌≡◌, ◌∙◌, refl, ◌/◌, ◌<◌, length, arith}
+use lib.Arith.{digits_lt}
+use Rattle.arena.specs.Game.{board}
+use Rattle.halves.proofs.Drawing.{drawing-start, drawing-more, step-within, into_drawn, onto-drawn}
+use Rattle.halves.proofs.draw.Goals.{After-wide-to}
 use Rattle.halves.proofs.draw.Goals as goal
 
-pub loop-i-init : goal.loop-i-init
-loop-i-init c =
-    let ms = c.args.moves.now in
-    let k = c.args.g.letters in (
-      omega arith,
-      refl,
-      refl,
-      drawn-none (λ j. to ms j * k + letter ms j) (from ms) c.args.into.now c.requires.empty.0,
-      drawn-none (λ j. from ms j * k + letter ms j) (to ms) c.args.onto.now c.requires.empty.1,
-    )
+pub loop-step-init : goal.loop-step-init
+loop-step-init c =
+    let all = c.into_iter-step-iterator.ensures.into_iter_gives in
+    rw all (c.chunks_exact-step-items.ensures.size, refl, refl, drawing-start _ _ c.chunks_exact-step-items.ensures.rest c.requires.empty.0 c.requires.empty.1)
 
-pub loop-i-preserved : goal.loop-i-preserved
-loop-i-preserved c =
-    let source : ℕ = c.wide-from.result in
-    let sign : ℕ = c.wide-letter.result in
-    let goal : ℕ = c.wide-to.result in
-    let arena : Arena = c.args.g in
-    let ms = c.args.moves.now in
-    let k = arena.letters in
-    let x : source ≡ from ms c.loop-i.i = c.wide-from.ensures in
-    let y : sign ≡ letter ms c.loop-i.i = c.wide-letter.ensures in
-    let z : goal ≡ to ms c.loop-i.i = c.wide-to.ensures in
-    let (h, u, v, p, q) = c.loop-i.invariant in (
-      omega arith,
-      c.insert.ensures.words ∙ u,
-      c.insert-in-loop-i.ensures.words ∙ v,
-      drawn-more (λ j. to ms j * k + letter ms j) (from ms) c.loop-i.i (goal * k + sign) (source) c.loop-i.into c.insert.new.sets (λ t. z t * k + y t) x p c.insert.ensures,
-      drawn-more (λ j. from ms j * k + letter ms j) (to ms) c.loop-i.i (source * k + sign) (goal) c.loop-i.onto c.insert-in-loop-i.new.sets (λ t. x t * k + y t) z q c.insert-in-loop-i.ensures,
+-- the move that is read is within the limits
+within : (c : After-wide-to) → (c.wide-from.result < c.args.game.now.arena.states) × (c.wide-letter.result < c.args.game.now.arena.letters) × (c.wide-to.result < c.args.game.now.arena.states)
+within c =
+    let (size, (cut, three), remainder) = c.in-Some.ensures.steps in
+    step-within _ _ c.in-Some.step.now _ c.loop-step.invariant.3 cut (three ∙ c.loop-step.invariant.0) c.wide-from.ensures c.wide-letter.ensures c.wide-to.ensures c.requires.formed.inside
+
+pub insert-requires : goal.insert-requires
+insert-requires c =
+    let (x, y, z) = within (goal.at.insert-requires c).After-wide-to in
+    record { word_in_bounds = omega (arith, c.loop-step.invariant.1, digits_lt z y, c.requires.letters_in_bounds.0); member_fits = omega (arith, c.requires.formed.few) }
+
+pub insert-requires-in-loop-step : goal.insert-requires-in-loop-step
+insert-requires-in-loop-step c =
+    let (x, y, z) = within (goal.at.insert-requires-in-loop-step c).After-wide-to in
+    record { word_in_bounds = omega (arith, c.loop-step.invariant.2, digits_lt x y, c.requires.letters_in_bounds.1); member_fits = omega (arith, c.requires.formed.few) }
+
+pub loop-step-preserved : goal.loop-step-preserved
+loop-step-preserved c =
+    let (size, (cut, three), remainder) = c.in-Some.ensures.steps in (
+      size ∙ c.loop-step.invariant.0,
+      c.insert.ensures.words ∙ c.loop-step.invariant.1,
+      c.insert-in-loop-step.ensures.words ∙ c.loop-step.invariant.2,
+      drawing-more _ _ c.in-Some.step.now _ c.loop-step.invariant.3 cut (three ∙ c.loop-step.invariant.0) c.wide-from.ensures c.wide-letter.ensures c.wide-to.ensures c.insert.ensures c.insert-in-loop-step.ensures,
     )
 
 pub returns : goal.returns
 returns c =
-    let B = board_in c.args.g c.args.marks.now c.args.moves.now in
-    let (h, u, v, p, q) = c.loop-i.invariant in
-    let all : c.loop-i.i ≡ length c.args.moves.now / 3 = omega arith in
-    record { into = into_drawn B c.requires.formed c.loop-i.into (omega (arith, c.requires.letters_in_bounds.0)) (rw all at p); onto = onto-drawn B c.requires.formed c.loop-i.onto (omega (arith, c.requires.letters_in_bounds.1)) (rw all at q) }
+    let B = board c.args.game.now in
+    let d = c.loop-step.invariant.3 in
+    let all : d.count ≡ length c.args.game.now.moves.now / 3 = omega (arith, d.whole, c.in-None.ensures.steps.1.0, c.loop-step.invariant.0) in
+    record {
+      into = into_drawn B c.requires.formed c.loop-step.into (omega (arith, c.loop-step.invariant.1, c.requires.letters_in_bounds.0)) (rw all at d.befores);
+      onto = onto-drawn B c.requires.formed c.loop-step.onto (omega (arith, c.loop-step.invariant.2, c.requires.letters_in_bounds.1)) (rw all at d.afters);
+    }

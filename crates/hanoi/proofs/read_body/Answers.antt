@@ -1,15 +1,9 @@
 -- `read_body` meets its contract: the body is refused, or what was gathered of it is a file, which `finish` judges and writes.
-use mathlib.Core.Path.{◌≡◌, refl, ap, ◌∙◌, subst}
-use mathlib.Core.List.{List}
-use Prim.Native.Nat.{ℕ}
-use lib.ListN.{length-replicate}
+use Rattle.std.proofs.Common.{refl, ap, ◌∙◌}
+use Rattle.std.proofs.lemmas.Result.{err_from_is_err_and}
 use Rattle.automaton.specs.Effect.{Effect}
-use Rattle.tokens.specs.declared.Token.{Token}
 use Rattle.tokens.specs.Tokens.{token_from}
 use Rattle.headers.proofs.Reach.{few-props, held-within}
-use Rattle.triples.specs.Triples.{most_triples}
-use Rattle.bodies.specs.declared.Bodied.{Bodied}
-use Rattle.bodies.specs.Reads.{Gathered, Reads}
 use Rattle.text.specs.Calls.{Lent, lent_of}
 use Rattle.hanoi.specs.File.{File}
 use Rattle.hanoi.specs.Reading.{whole, refused, in_body, to_end}
@@ -17,37 +11,26 @@ use Rattle.hanoi.specs.Calls.{read, reading}
 use Rattle.hanoi.proofs.Gathered.{finished}
 use Rattle.hanoi.proofs.read_body.Goals as goal
 
--- what the body came to, once it is told apart
-came : (T : ℕ → Token) (n p i : ℕ) (sheet seen : List ℕ) {r y : Bodied} → r ≡ y → Reads T n p i r sheet seen → Reads T n p i y sheet seen
-came T n p i sheet seen e w = subst (λ (y : Bodied). Reads T n p i y sheet seen) e w
+pub read-requires-clause-from_in_bounds : goal.read-requires-clause-from_in_bounds
+read-requires-clause-from_in_bounds c = held-within c.args.text.now c.requires.walk
 
-pub letters_of-letters-requires : goal.letters_of-letters-requires
-letters_of-letters-requires c = few-props (token_from c.args.text.now) c.requires.walk
+pub read-requires-clause-props_bound : goal.read-requires-clause-props_bound
+read-requires-clause-props_bound c = few-props (token_from c.args.text.now) c.requires.walk
 
-pub read-bodied-requires : goal.read-bodied-requires
-read-bodied-requires c =
-    record { from_in_bounds = held-within c.args.text.now c.requires.walk; props_bound = (few-props (token_from c.args.text.now) c.requires.walk, c.letters_of-letters.ensures); sheet_value = (refl, refl) }
+pub letters_of-requires : goal.letters_of-requires
+letters_of-requires c = few-props (token_from c.args.text.now) c.requires.walk
 
-pub finish-requires : goal.finish-requires
-finish-requires c =
-    (c.read-bodied.auto.sheet ∙ length-replicate {A = ℕ} 65536 0, c.read-bodied.auto.seen ∙ length-replicate {A = ℕ} most_triples 0)
-
-pub returns-in-Refused : goal.returns-in-Refused
+pub returns-in_err-read : goal.returns-in_err-read
 unfolding reading
-returns-in-Refused c =
-    let h = c.args.header in
-    let w = came (token_from c.args.text.now) h.states h.props c.args.at c.read-bodied.new.sheet c.read-bodied.new.seen c.in-Refused.is c.read-bodied.ensures in
-    read {o = refused c.in-Refused.refusal} c.requires.text_len_bound (in_body c.requires.walk w) refl refl
+returns-in_err-read c =
+    let p = err_from_is_err_and c.from_residual.result c.from_residual.ensures.1 in
+    rw (p.1, p.2) (read {o = refused _} c.requires.text_len_bound (in_body c.requires.walk c.in_err-read.ensures) refl refl)
 
-pub returns-in-Held : goal.returns-in-Held
-returns-in-Held c =
-    let h = c.args.header in
-    let sheet = c.read-bodied.new.sheet in
-    let seen = c.read-bodied.new.seen in
-    let gathered : Gathered (token_from c.args.text.now) h.states h.props c.args.at sheet seen =
-    came (token_from c.args.text.now) h.states h.props c.args.at sheet seen c.in-Held.is c.read-bodied.ensures in
-    let f : File = record { header = h; sheet = sheet; edges = gathered.edges } in
-    let same = finished f seen c.args.limits (lent_of c.args.marks.now c.args.moves.now) c.letters_of-letters.result c.letters_of-letters.ensures gathered.shown in
+pub returns : goal.returns
+returns c =
+    let gathered = c.in_ok-read.ensures in
+    let f : File = record { header = c.args.headed.header; sheet = c.read.new.sheet; edges = gathered.edges } in
+    let same = finished f c.read.new.seen c.args.limits (lent_of c.args.marks.now c.args.moves.now) c.letters_of.result c.letters_of.ensures gathered.shown in
     read {o = whole f} c.requires.text_len_bound (to_end c.requires.walk gathered.walked)
     (c.finish.ensures.result_value ∙ ap (λ (y : Effect Lent). y.answer) same)
     (c.finish.ensures.buffers_after ∙ ap (λ (y : Effect Lent). y.left) same)

@@ -1,26 +1,24 @@
 -- `column` meets its contract: each of the four numbers has the letters of its proposition, by the 16 tests.
-use mathlib.Core.Path.{◌≡◌, refl, sym, subst}
-use Prim.Native.Nat.{ℕ}
-use native.Mathlib.Omega.{arith}
+use Rattle.std.proofs.Common.{◌≡◌, refl, sym, subst, ℕ, arith}
 use Rattle.labels.specs.Label.{prop, holds}
 use Rattle.labels.specs.Letters.{Agrees}
 use Rattle.labels.proofs.Masks.{agree, agrees-by}
 use Rattle.labels.proofs.column.Goals as goal
 
-pub returns-then-i-eq0 : goal.returns-then-i-eq0
+pub returns-in-0 : goal.returns-in-0
 unfolding agree holds
-returns-then-i-eq0 c = subst (λ (x : ℕ). Agrees 43690 (prop x)) (sym c.if-i-eq0.true) (agrees-by 43690 (prop 0) refl)
+returns-in-0 c = subst (λ (x : ℕ). Agrees 43690 (prop x)) (sym c.in-0.is) (agrees-by 43690 (prop 0) refl)
 
-pub returns-then-i-eq1 : goal.returns-then-i-eq1
+pub returns-in-1 : goal.returns-in-1
 unfolding agree holds
-returns-then-i-eq1 c = subst (λ (x : ℕ). Agrees 52428 (prop x)) (sym c.if-i-eq1.true) (agrees-by 52428 (prop 1) refl)
+returns-in-1 c = subst (λ (x : ℕ). Agrees 52428 (prop x)) (sym c.in-1.is) (agrees-by 52428 (prop 1) refl)
 
-pub returns-then-i-eq2 : goal.returns-then-i-eq2
+pub returns-in-2 : goal.returns-in-2
 unfolding agree holds
-returns-then-i-eq2 c = subst (λ (x : ℕ). Agrees 61680 (prop x)) (sym c.if-i-eq2.true) (agrees-by 61680 (prop 2) refl)
+returns-in-2 c = subst (λ (x : ℕ). Agrees 61680 (prop x)) (sym c.in-2.is) (agrees-by 61680 (prop 2) refl)
 
-pub returns : goal.returns
+pub returns-in_default : goal.returns-in_default
 unfolding agree holds
-returns c =
+returns-in_default c =
     let e : c.args.i ≡ 3 = omega arith in
     subst (λ (x : ℕ). Agrees 65280 (prop x)) (sym e) (agrees-by 65280 (prop 3) refl)

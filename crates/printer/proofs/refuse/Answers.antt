@@ -1,7 +1,5 @@
 -- `refuse` meets its contract: the line of the refusal's number and place.
-use mathlib.Core.Path.{ap, ◌∙◌}
-use mathlib.Core.List.{[], ◌∷◌}
-use Prim.Native.Nat.{ℕ}
+use Rattle.std.proofs.Common.{ap, ◌∙◌, [], ◌∷◌, ℕ}
 use Rattle.automaton.specs.Answer.{number_of}
 use Rattle.fields.specs.Bytes.{bytes_of}
 use Rattle.printer.specs.Printed.{line}

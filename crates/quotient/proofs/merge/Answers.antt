@@ -1,139 +1,93 @@
 -- `quotient::merge` meets its contract: each call reads what the calls before it wrote, which is what the definitions say.
-use mathlib.Core.Path.{◌≡◌, refl, sym, ap, ◌∙◌, subst}
-use mathlib.Core.List.{List, ◌++◌, map}
-use Prim.Native.Nat.{ℕ, ◌*◌, ◌-◌, ◌/◌, ◌≤◌}
-use native.Mathlib.Omega.{arith}
-use borrow.Rule.Slice.PartMut.{put_mid}
-use lib.ListN.{length, get_or, drop, length-replicate}
+use Rattle.std.proofs.Common.{◌≡◌, sym, ap, ◌∙◌, subst, List, ◌++◌, map, ℕ, ◌*◌, ◌/◌, length, get_or, drop, arith}
 use Rattle.games.specs.Settle.{ascending}
 use Rattle.automaton.specs.declared.Mode.{Mode}
-use Rattle.automaton.specs.Board.{Board, Formed}
-use Rattle.simulation.specs.Quotient.{padded, class_of, class_count, class_bytes, class_marks, mark_bytes, class_moves, move_bytes}
-use Rattle.arena.specs.Arena.{board_in}
-use Rattle.quotient.specs.Calls.{buffers, counted}
-use Rattle.triples.specs.Triples.{most_triples, triples_in}
-use Rattle.classing.specs.Writing.{Imaged, mark_in, Seen}
-use Rattle.classing.proofs.Bytes.{bytes_length, marks_are, imaged, triples_are, class_at}
+use Rattle.simulation.specs.Quotient.{padded, class_count, class_bytes, mark_bytes, class_moves}
 use Rattle.laws.proofs.Fewer.{moves_fewer}
 use Rattle.laws.proofs.Quotient.{classes-most}
-use Rattle.classing.proofs.Lists.{padded_tail}
+use Rattle.triples.specs.Triples.{triples_in}
+use Rattle.arena.specs.declared.game.Game.{Game}
+use Rattle.arena.specs.Game.{board, Playable}
+use Rattle.arena.specs.Seats.{bare}
 use Rattle.arena.proofs.Seats.{seated}
+use Rattle.classing.specs.Writing.{Imaged, mark_in, Seen}
 use Rattle.classing.proofs.Bare.{bare-bytes, bare-count}
+use Rattle.classing.proofs.Bytes.{marks_are, imaged, triples_are, class_at}
+use Rattle.classing.proofs.Lists.{padded_tail}
+use Rattle.quotient.specs.Calls.{buffers, counted}
 use Rattle.quotient.proofs.merge.Goals as goal
 
-pub number-count-requires : goal.number-count-requires
-number-count-requires c =
-    record { seated = seated c.args.g c.args.marks.now c.args.moves.now c.args.table.now c.requires.ready; classes_len = c.requires.classes_len.0 }
+-- ---- what the calls in turn wrote
 
-pub fill_marks-requires : goal.fill_marks-requires
-fill_marks-requires c =
-    let board : Board = board_in c.args.g c.args.marks.now c.args.moves.now in
-    let mode : Mode = c.args.g.mode in
-    let table : List ℕ = c.args.table.now in
-    let formed : Formed board = c.requires.ready.formed in
-    let classes : List ℕ = c.number-count.new.classes in
-    let count_is : c.number-count.result ≡ class_count board mode table = c.number-count.ensures.value ∙ bare-count c.args.g c.args.marks.now c.args.moves.now table in
-    let classes-are : classes ≡ class_bytes board mode table = c.number-count.ensures.classes_after ∙ bare-bytes c.args.g c.args.marks.now c.args.moves.now table in
-    let classes-length : length classes ≡ board.n = ap length classes-are ∙ bytes_length board mode table in
-    record { classes_len = classes-length ∙ sym formed.marked; count_in_bounds = omega (arith, count_is, classes-most board mode table, c.requires.classes_len.1) }
+module _ (g : Game) (t : List ℕ) (R : Playable g t) (classes : List ℕ) (e : classes ≡ class_bytes (bare g.arena g.marks.now) g.arena.mode t) where
+  abbrev m : Mode
+  m = g.arena.mode
 
-pub mark_images-requires : goal.mark_images-requires
-mark_images-requires c =
-    let board : Board = board_in c.args.g c.args.marks.now c.args.moves.now in
-    let mode : Mode = c.args.g.mode in
-    let table : List ℕ = c.args.table.now in
-    let formed : Formed board = c.requires.ready.formed in
-    let classes : List ℕ = c.number-count.new.classes in
-    let classes-are : classes ≡ class_bytes board mode table = c.number-count.ensures.classes_after ∙ bare-bytes c.args.g c.args.marks.now c.args.moves.now table in
-    let B = board in
-    record { states_le_most_states = (formed.few, formed.few_letters); imaged = subst (λ (l : List ℕ). Imaged B.n B.k l B.moves) (sym classes-are) (imaged B mode table formed); seen_value = refl }
+  classes-are : classes ≡ class_bytes (board g) m t
+  classes-are = e ∙ bare-bytes g.arena g.marks.now g.moves.now t
 
-pub slice_bounds-write_moves-end : goal.slice_bounds-write_moves-end
-slice_bounds-write_moves-end c =
-    let seen : List ℕ = c.mark_images.new.seen in
-    let seen-length : length seen ≡ most_triples = c.mark_images.auto.seen ∙ length-replicate {A = ℕ} most_triples 0 in
-    sym seen-length
+  images : Imaged g.arena.states g.arena.letters classes g.moves.now
+  images = subst (λ (l : List ℕ). Imaged g.arena.states g.arena.letters l g.moves.now) (sym classes-are) (imaged (board g) m t R.formed)
 
-pub write_moves-bytes-requires : goal.write_moves-bytes-requires
-write_moves-bytes-requires c =
-    let board : Board = board_in c.args.g c.args.marks.now c.args.moves.now in
-    let mode : Mode = c.args.g.mode in
-    let table : List ℕ = c.args.table.now in
-    let formed : Formed board = c.requires.ready.formed in
-    let classes : List ℕ = c.number-count.new.classes in
-    let classes-are : classes ≡ class_bytes board mode table = c.number-count.ensures.classes_after ∙ bare-bytes c.args.g c.args.marks.now c.args.moves.now table in
-    let moved : List ℕ = class_moves board mode table in
-    let seen : List ℕ = c.mark_images.new.seen in
-    let seen-length : length seen ≡ most_triples = c.mark_images.auto.seen ∙ length-replicate {A = ℕ} most_triples 0 in
-    let triples-seen : let n = board.n in let k = board.k in triples_in n k seen (n * k * n) ≡ moved =
-    let B = board in
-    triples_are B mode table formed seen
-    (subst (λ (l : List ℕ). Seen B.n B.k l B.moves (length B.moves / 3) seen) classes-are c.mark_images.ensures) in
-    let moved-most : length moved ≤ length c.args.classmoves.now = omega (arith, moves_fewer board mode table, c.requires.classes_len.2) in
-    let F = formed in
-    record { states_nonzero = (F.states, F.few, F.letters, F.few_letters); seen_len = seen-length; states_in_bounds = omega (arith, ap length triples-seen, moved-most) }
+  -- the moves whose numbers were marked are those of the quotient
+  moves-are : (seen : List ℕ) → Seen g.arena.states g.arena.letters classes g.moves.now (length g.moves.now / 3) seen
+      → triples_in g.arena.states g.arena.letters seen (g.arena.states * g.arena.letters * g.arena.states) ≡ class_moves (board g) m t
+  moves-are seen s =
+      triples_are (board g) m t R.formed seen
+      (subst (λ (l : List ℕ). Seen g.arena.states g.arena.letters l g.moves.now (length g.moves.now / 3) seen) classes-are s)
 
-pub slice_bounds-leave_unused-count : goal.slice_bounds-leave_unused-count
-slice_bounds-leave_unused-count c =
-    let board : Board = board_in c.args.g c.args.marks.now c.args.moves.now in
-    let mode : Mode = c.args.g.mode in
-    let table : List ℕ = c.args.table.now in
-    let formed : Formed board = c.requires.ready.formed in
-    let classes : List ℕ = c.number-count.new.classes in
-    let classes-are : classes ≡ class_bytes board mode table = c.number-count.ensures.classes_after ∙ bare-bytes c.args.g c.args.marks.now c.args.moves.now table in
-    let moved : List ℕ = class_moves board mode table in
-    let seen : List ℕ = c.mark_images.new.seen in
-    let triples-seen : let n = board.n in let k = board.k in triples_in n k seen (n * k * n) ≡ moved =
-    let B = board in
-    triples_are B mode table formed seen
-    (subst (λ (l : List ℕ). Seen B.n B.k l B.moves (length B.moves / 3) seen) classes-are c.mark_images.ensures) in
-    let moved-most : length moved ≤ length c.args.classmoves.now = omega (arith, moves_fewer board mode table, c.requires.classes_len.2) in
-    let out : List ℕ = c.write_moves-bytes.new.out in
-    let bytes-are : c.write_moves-bytes.result ≡ length moved = c.write_moves-bytes.ensures.value ∙ ap length triples-seen in
-    let out-length : length out ≡ length c.args.moves.now = c.write_moves-bytes.auto.out ∙ c.requires.classes_len.2 in
-    let bytes_most : c.write_moves-bytes.result ≤ length out = omega (arith, bytes-are, moved-most, out-length, c.requires.classes_len.2) in
-    bytes_most
+  marks_are_written : (count : ℕ) (out : List ℕ) → count ≡ class_count (bare g.arena g.marks.now) m t → length out ≡ g.arena.states
+      → padded (length out) (map (mark_in g.marks.now classes) (ascending 0 count)) ≡ mark_bytes (board g) m t
+  marks_are_written count out n l =
+      (λ i. padded (l i) (map (mark_in g.marks.now (classes-are i)) (ascending 0 ((n ∙ bare-count g.arena g.marks.now g.moves.now t) i))))
+      ∙ ap (padded g.arena.states) (marks_are (board g) m t R.formed)
 
-pub bounds-classes-start : goal.bounds-classes-start
-bounds-classes-start c =
-    let board : Board = board_in c.args.g c.args.marks.now c.args.moves.now in
-    let mode : Mode = c.args.g.mode in
-    let table : List ℕ = c.args.table.now in
-    let classes : List ℕ = c.number-count.new.classes in
-    let classes-are : classes ≡ class_bytes board mode table = c.number-count.ensures.classes_after ∙ bare-bytes c.args.g c.args.marks.now c.args.moves.now table in
-    let classes-length : length classes ≡ board.n = ap length classes-are ∙ bytes_length board mode table in
-    omega (arith, classes-length, c.requires.start_lt_states)
+pub invariant_of-seats : goal.invariant_of-seats
+invariant_of-seats c =
+    let g = c.args.game.now in
+    record { seated = seated g.arena g.marks.now g.moves.now c.args.table.now c.requires.playable }
 
-pub returns : goal.returns
-returns c =
-    let board : Board = board_in c.args.g c.args.marks.now c.args.moves.now in
-    let mode : Mode = c.args.g.mode in
-    let table : List ℕ = c.args.table.now in
-    let formed : Formed board = c.requires.ready.formed in
-    let classes : List ℕ = c.number-count.new.classes in
-    let count_is : c.number-count.result ≡ class_count board mode table = c.number-count.ensures.value ∙ bare-count c.args.g c.args.marks.now c.args.moves.now table in
-    let classes-are : classes ≡ class_bytes board mode table = c.number-count.ensures.classes_after ∙ bare-bytes c.args.g c.args.marks.now c.args.moves.now table in
-    let marks-written : c.fill_marks.new.out ≡ mark_bytes board mode table =
-    let marks : List ℕ → ℕ → List ℕ = λ l n. padded (length c.args.classmarks.now) (map (mark_in c.args.marks.now l) (ascending 0 n)) in
-    c.fill_marks.ensures
-    ∙ (λ i. marks (classes-are i) (count_is i))
-    ∙ ap (λ (l : List ℕ). padded (length c.args.classmarks.now) l) (marks_are board mode table formed)
-    ∙ ap (λ (n : ℕ). padded n (class_marks board mode table)) c.requires.classes_len.1 in
-    let moved : List ℕ = class_moves board mode table in
-    let seen : List ℕ = c.mark_images.new.seen in
-    let triples-seen : let n = board.n in let k = board.k in triples_in n k seen (n * k * n) ≡ moved =
-    let B = board in
-    triples_are B mode table formed seen
-    (subst (λ (l : List ℕ). Seen B.n B.k l B.moves (length B.moves / 3) seen) classes-are c.mark_images.ensures) in
-    let out : List ℕ = c.write_moves-bytes.new.out in
-    let bytes-are : c.write_moves-bytes.result ≡ length moved = c.write_moves-bytes.ensures.value ∙ ap length triples-seen in
-    let out-is : out ≡ moved ++ drop c.write_moves-bytes.result c.args.classmoves.now =
-    c.write_moves-bytes.ensures.out_after
-    ∙ ap (λ (l : List ℕ). l ++ drop c.write_moves-bytes.result c.args.classmoves.now) triples-seen in
-    let out-length : length out ≡ length c.args.moves.now = c.write_moves-bytes.auto.out ∙ c.requires.classes_len.2 in
-    let start-class : c.wide.result ≡ class_of board mode table c.args.start =
-    c.wide.ensures ∙ ap (λ (l : List ℕ). get_or l c.args.start 0) classes-are ∙ class_at board mode table c.args.start c.requires.start_lt_states in
-    let moves-written : put_mid c.write_moves-bytes.result (length out - c.write_moves-bytes.result) out c.leave_unused.new.part ≡ move_bytes board mode table =
-    padded_tail c.write_moves-bytes.result out moved (drop c.write_moves-bytes.result c.args.classmoves.now) c.leave_unused.new.part out-is (sym bytes-are) c.leave_unused.ensures
-    ∙ ap (λ (n : ℕ). padded n moved) out-length in
-    record { result_value = (λ i. counted (count_is i) (bytes-are i / 3) (start-class i)); classmoves_after = (λ i. buffers table (classes-are i) (marks-written i) (moves-written i)) }
+pub fill_marks-requires-clause-count_in_bounds : goal.fill_marks-requires-clause-count_in_bounds
+fill_marks-requires-clause-count_in_bounds c =
+    let g = c.args.game.now in
+    let t = c.args.table.now in
+    omega (arith, bare-count g.arena g.marks.now g.moves.now t, classes-most (board g) g.arena.mode t)
+
+pub mark_images-requires-clause-imaged : goal.mark_images-requires-clause-imaged
+mark_images-requires-clause-imaged c =
+    images c.args.game.now c.args.table.now c.requires.playable c.number-count.new.classes c.number-count.ensures.classes_after
+
+pub write_moves-bytes-requires-clause-states_in_bounds : goal.write_moves-bytes-requires-clause-states_in_bounds
+write_moves-bytes-requires-clause-states_in_bounds c =
+    let g = c.args.game.now in
+    let t = c.args.table.now in
+    let moved = moves-are g t c.requires.playable c.number-count.new.classes c.number-count.ensures.classes_after c.mark_images.new.seen c.mark_images.ensures in
+    omega (arith, ap length moved, moves_fewer (board g) g.arena.mode t)
+
+pub returns-clause-result_value : goal.returns-clause-result_value
+returns-clause-result_value c =
+    let g = c.args.game.now in
+    let t = c.args.table.now in
+    let n = c.number-count in
+    let moved = moves-are g t c.requires.playable n.new.classes n.ensures.classes_after c.mark_images.new.seen c.mark_images.ensures in
+    let count = n.ensures.value ∙ bare-count g.arena g.marks.now g.moves.now t in
+    let bytes = c.write_moves-bytes.ensures.value ∙ ap length moved in
+    let start = c.wide.ensures
+    ∙ ap (λ (l : List ℕ). get_or l c.args.start 0) (classes-are g t c.requires.playable n.new.classes n.ensures.classes_after)
+    ∙ class_at (board g) g.arena.mode t c.args.start c.requires.is_state in
+    λ i. counted (count i) (bytes i / 3) (start i)
+
+pub returns-clause-buffers_after : goal.returns-clause-buffers_after
+returns-clause-buffers_after c =
+    let g = c.args.game.now in
+    let t = c.args.table.now in
+    let n = c.number-count in
+    let moved = moves-are g t c.requires.playable n.new.classes n.ensures.classes_after c.mark_images.new.seen c.mark_images.ensures in
+    let classes = classes-are g t c.requires.playable n.new.classes n.ensures.classes_after in
+    let marks = c.fill_marks.ensures ∙ marks_are_written g t c.requires.playable n.new.classes n.ensures.classes_after n.result c.args.classmarks.now n.ensures.value c.requires.sized.1 in
+    let w = c.write_moves-bytes in
+    let out-is = w.ensures.out_after ∙ ap (λ (l : List ℕ). l ++ drop w.result c.args.classmoves.now) moved in
+    let length-is = w.auto.out ∙ c.requires.sized.2 in
+    let moves = padded_tail w.result w.new.out (class_moves (board g) g.arena.mode t) (drop w.result c.args.classmoves.now) c.leave_unused.new.part out-is (sym (w.ensures.value ∙ ap length moved)) c.leave_unused.ensures
+    ∙ ap (λ (n : ℕ). padded n (class_moves (board g) g.arena.mode t)) length-is in
+    λ i. buffers t (classes i) (marks i) (moves i)

@@ -1,101 +1,58 @@
 -- `relation::reply` meets its contract: refusals 1 to 12 are decided first, then what the reply at the position is.
-use mathlib.Core.Path.{◌≡◌, sym, ap, ◌∙◌}
-use mathlib.Core.List.{List}
-use Prim.Native.Nat.{ℕ}
-use native.Mathlib.Omega.{arith}
-use lib.ListN.{length}
-use Rattle.games.specs.Game.{Game}
-use Rattle.automaton.specs.declared.Refusal.TheVariants.{NotAtRest}
-use Rattle.automaton.specs.Answer.{none}
+use Rattle.std.proofs.Common.{sym, ap, ◌∙◌, arith}
+use Rattle.std.proofs.lemmas.Result.{err_from_is_err_and}
 use Rattle.simulation.specs.Answers.{reply_at}
-use Rattle.arena.specs.declared.Arena.{Arena}
-use Rattle.arena.specs.declared.Opened.TheVariants.{Open}
-use Rattle.arena.specs.Arena.{board_in, opened, Ready}
-use Rattle.arena.specs.Job.{Job, job_of, game_of}
-use Rattle.arena.specs.Refusals.{open_fault}
-use Rattle.arena.proofs.Open.{open_is, open_game, open_faultless, open_ready, shut_fault}
-use Rattle.table.specs.Answers.{of_rested}
-use Rattle.relation.proofs.Effects.{Resting, Restless, replying_shut, replying-above, replying-beyond, replying-restless, replying-does}
-use Rattle.relation.proofs.Tested.{rest-refused, rest-placed, rest-one}
+use Rattle.arena.proofs.Games.{opens_playable}
+use Rattle.arena.proofs.Open.{shut_fault}
+use Rattle.table.specs.Answers.{found}
+use Rattle.relation.proofs.Effects.{replying_shut, replying-above, replying-beyond, replying-restless, replying-does}
+use Rattle.relation.proofs.Opened.{faultless, board_is, mode_is, entries}
+use Rattle.relation.proofs.Tested.{rest-refused, rest-placed, rest-one, rest-tells}
 use Rattle.relation.proofs.reply.Goals as goal
+
+pub returns-in_err-game : goal.returns-in_err-game
+returns-in_err-game c =
+    let a = c.args in
+    let p = err_from_is_err_and c.from_residual.result c.from_residual.ensures.1 in
+    rw (p.1, p.2) (sym (replying_shut a.job.now a.table.now a.position _ (shut_fault a.job.now a.table.now _ c.in_err-game.ensures)))
+
+pub returns-in_err-restless : goal.returns-in_err-restless
+returns-in_err-restless c =
+    let a = c.args in
+    let j = a.job.now in
+    let t = a.table.now in
+    let o = faultless j t c.in_ok-game.game c.in_ok-game.ensures in
+    let p = err_from_is_err_and c.from_residual-in_err-restless.result c.from_residual-in_err-restless.ensures.1 in
+    rw (p.1, p.2) (sym (replying-above j t o a.position _ (rest-refused j t o _ c.in_err-restless.ensures)))
 
 pub returns-then-table-position : goal.returns-then-table-position
 returns-then-table-position c =
-    let job : Job = job_of c.args.a c.args.marks.now c.args.moves.now c.args.mode in
-    let table : List ℕ = c.args.table.now in
-    let asked : ℕ = c.args.position in
-    let arena : Arena = c.in-Open.g in
-    let is_open : opened job (length table) ≡ Open arena = sym c.for_table-opened.ensures ∙ c.in-Open.is in
-    let faultless : open_fault job (length table) ≡ none = open_faultless job table arena is_open in
-    let ready : Ready arena job.board.marks job.board.moves table = open_ready job table arena is_open in
-    let entries : length table ≡ (game_of job).P = ready.entries ∙ sym (ap (λ (g : Game). g.P) (open_game job table arena is_open)) in
-    let restless : Restless job table faultless (NotAtRest c.in-Restless.lowest) = rest-placed job table faultless c.in-Restless.lowest (sym (ap of_rested c.in-Restless.is) ∙ c.rest-rested.ensures) in
-    sym (replying-beyond job table faultless asked restless.0 (omega (arith, entries, c.if-table-position.true)))
+    let a = c.args in
+    let j = a.job.now in
+    let t = a.table.now in
+    let o = faultless j t c.in_ok-game.game c.in_ok-game.ensures in
+    sym (replying-beyond j t o a.position (rest-tells j t o _ c.in_ok-restless.ensures) (omega (arith, entries j t c.in_ok-game.game c.in_ok-game.ensures)))
 
-pub returns-then-table-position-2 : goal.returns-then-table-position-2
-returns-then-table-position-2 c =
-    let job : Job = job_of c.args.a c.args.marks.now c.args.moves.now c.args.mode in
-    let table : List ℕ = c.args.table.now in
-    let asked : ℕ = c.args.position in
-    let arena : Arena = c.in-Open.g in
-    let is_open : opened job (length table) ≡ Open arena = sym c.for_table-opened.ensures ∙ c.in-Open.is in
-    let faultless : open_fault job (length table) ≡ none = open_faultless job table arena is_open in
-    let ready : Ready arena job.board.marks job.board.moves table = open_ready job table arena is_open in
-    let entries : length table ≡ (game_of job).P = ready.entries ∙ sym (ap (λ (g : Game). g.P) (open_game job table arena is_open)) in
-    let at_rest : Resting job table faultless = rest-one job table faultless (sym (ap of_rested c.in-AtRest.is) ∙ c.rest-rested.ensures) in
-    sym (replying-beyond job table faultless asked at_rest.0 (omega (arith, entries, c.if-table-position-2.true)))
+pub returns-in-Some : goal.returns-in-Some
+returns-in-Some c =
+    let a = c.args in
+    let j = a.job.now in
+    let t = a.table.now in
+    let o = faultless j t c.in_ok-game.game c.in_ok-game.ensures in
+    let lowest = rest-placed j t o c.in-Some.lowest (sym (ap found c.in-Some.is) ∙ c.in_ok-restless.ensures) in
+    sym (replying-restless j t o a.position _ lowest (omega (arith, entries j t c.in_ok-game.game c.in_ok-game.ensures)))
 
-pub reply_at-requires : goal.reply_at-requires
-reply_at-requires c =
-    let job : Job = job_of c.args.a c.args.marks.now c.args.moves.now c.args.mode in
-    let table : List ℕ = c.args.table.now in
-    let arena : Arena = c.in-Open.g in
-    let is_open : opened job (length table) ≡ Open arena = sym c.for_table-opened.ensures ∙ c.in-Open.is in
-    let ready : Ready arena job.board.marks job.board.moves table = open_ready job table arena is_open in
-    record { ready = ready; position_in_bounds = omega (arith, c.if-table-position-2.false) }
+pub reply_at-requires-clause-playable : goal.reply_at-requires-clause-playable
+reply_at-requires-clause-playable c = let a = c.args in opens_playable a.job.now a.table.now c.in_ok-game.game c.in_ok-game.ensures
 
-pub returns-in-Shut : goal.returns-in-Shut
-returns-in-Shut c =
-    let job : Job = job_of c.args.a c.args.marks.now c.args.moves.now c.args.mode in
-    let table : List ℕ = c.args.table.now in
-    let asked : ℕ = c.args.position in
-    sym (replying_shut job table asked c.in-Shut.refusal (shut_fault job table c.in-Shut.refusal (sym c.for_table-opened.ensures ∙ c.in-Shut.is)))
-
-pub returns-in-Refused : goal.returns-in-Refused
-returns-in-Refused c =
-    let job : Job = job_of c.args.a c.args.marks.now c.args.moves.now c.args.mode in
-    let table : List ℕ = c.args.table.now in
-    let asked : ℕ = c.args.position in
-    let arena : Arena = c.in-Open.g in
-    let is_open : opened job (length table) ≡ Open arena = sym c.for_table-opened.ensures ∙ c.in-Open.is in
-    let faultless : open_fault job (length table) ≡ none = open_faultless job table arena is_open in
-    sym (replying-above job table faultless asked c.in-Refused.refusal (rest-refused job table faultless c.in-Refused.refusal (sym (ap of_rested c.in-Refused.is) ∙ c.rest-rested.ensures)))
-
-pub returns-else-table-position : goal.returns-else-table-position
-returns-else-table-position c =
-    let job : Job = job_of c.args.a c.args.marks.now c.args.moves.now c.args.mode in
-    let table : List ℕ = c.args.table.now in
-    let asked : ℕ = c.args.position in
-    let arena : Arena = c.in-Open.g in
-    let is_open : opened job (length table) ≡ Open arena = sym c.for_table-opened.ensures ∙ c.in-Open.is in
-    let faultless : open_fault job (length table) ≡ none = open_faultless job table arena is_open in
-    let ready : Ready arena job.board.marks job.board.moves table = open_ready job table arena is_open in
-    let entries : length table ≡ (game_of job).P = ready.entries ∙ sym (ap (λ (g : Game). g.P) (open_game job table arena is_open)) in
-    let restless : Restless job table faultless (NotAtRest c.in-Restless.lowest) = rest-placed job table faultless c.in-Restless.lowest (sym (ap of_rested c.in-Restless.is) ∙ c.rest-rested.ensures) in
-    sym (replying-restless job table faultless asked _ restless (omega (arith, entries, c.if-table-position.false)))
-
-pub returns-else-table-position-2 : goal.returns-else-table-position-2
-returns-else-table-position-2 c =
-    let job : Job = job_of c.args.a c.args.marks.now c.args.moves.now c.args.mode in
-    let table : List ℕ = c.args.table.now in
-    let asked : ℕ = c.args.position in
-    let arena : Arena = c.in-Open.g in
-    let is_open : opened job (length table) ≡ Open arena = sym c.for_table-opened.ensures ∙ c.in-Open.is in
-    let faultless : open_fault job (length table) ≡ none = open_faultless job table arena is_open in
-    let ready : Ready arena job.board.marks job.board.moves table = open_ready job table arena is_open in
-    let entries : length table ≡ (game_of job).P = ready.entries ∙ sym (ap (λ (g : Game). g.P) (open_game job table arena is_open)) in
-    let at_rest : Resting job table faultless = rest-one job table faultless (sym (ap of_rested c.in-AtRest.is) ∙ c.rest-rested.ensures) in
-    let j = job in
+pub returns-in-None : goal.returns-in-None
+returns-in-None c =
+    let a = c.args in
+    let j = a.job.now in
+    let t = a.table.now in
+    let opens = c.in_ok-game.ensures in
+    let o = faultless j t c.in_ok-game.game opens in
+    let rests = rest-one j t o (sym (ap found c.in-None.is) ∙ c.in_ok-restless.ensures) in
     c.reply_at.ensures
-    ∙ ap (λ (h : Arena). reply_at (board_in h j.board.marks j.board.moves) h.mode table asked) (sym (open_is j table arena is_open).1)
-    ∙ sym (replying-does j table faultless asked at_rest (omega (arith, entries, c.if-table-position-2.false)))
+    ∙ (λ i. reply_at (board_is j t c.in_ok-game.game opens i) (mode_is j t c.in_ok-game.game opens i) t a.position)
+    ∙ sym (replying-does j t o a.position rests (omega (arith, entries j t c.in_ok-game.game opens)))

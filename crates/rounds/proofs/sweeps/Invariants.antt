@@ -1,19 +1,16 @@
--- `rounds::sweeps` meets its contract. The invariant: the lists are as long as they were, the next sweep may begin, and `raised` raises have made the
--- table, from which the defined settle goes on. The measure is what the entries' sum lacks of P times T.
-use Prim.Native.Nat.{◌-◌}
-use Rattle.games.specs.Lift.{bound}
-use Rattle.games.proofs.Raises.{total}
-use Rattle.games.proofs.Sweeping.{Sweeping}
-use Rattle.arena.specs.Arena.{board_in, game_in}
+-- `rounds::sweeps` meets its contract. The invariant: the lists are as long as they were, the next sweep may begin, and the defined settle goes on from
+-- the table unless the last sweep raised nothing. The measure is what the entries' sum lacks of P times T, and a sweep that raises nothing.
+use Rattle.arena.specs.Game.{board, played}
 use Rattle.sweep.specs.Poised.{Poised}
 use Rattle.sweep.proofs.Room.{lists, Alike}
+use Rattle.rounds.proofs.Onward.{Onward, remaining}
 use Rattle.rounds.proofs.sweeps.Given as goal
 
-abbrev pub invariant-loop-g : goal.invariant-loop-g
-invariant-loop-g l =
-    Alike (lists l.initial.table l.initial.risen l.initial.rows l.initial.olds l.initial.grown l.initial.columns) (lists l.table l.risen l.rows l.olds l.grown l.columns)
-    × Poised (board_in l.g l.marks l.moves) l.g.mode l.table l.risen l.grown l.columns
-    × Sweeping (game_in l.g l.marks l.moves) l.raised l.table
+abbrev pub invariant-loop-last : goal.invariant-loop-last
+invariant-loop-last l =
+    Alike (lists l.fn.table l.fn.risen l.fn.rows l.fn.olds l.fn.grown l.fn.columns) (lists l.table l.risen l.rows l.olds l.grown l.columns)
+    × Poised (board l.game) l.game.arena.mode l.table l.risen l.grown l.columns
+    × Onward (played l.game) l.raised l.last l.table
 
-abbrev pub decreases-loop-g : goal.decreases-loop-g
-decreases-loop-g l = bound (game_in l.g l.marks l.moves) - total l.table
+abbrev pub decreases-loop-last : goal.decreases-loop-last
+decreases-loop-last l = remaining (played l.game) l.last l.table

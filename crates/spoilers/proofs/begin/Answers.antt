@@ -1,68 +1,40 @@
--- `spoilers::begin` meets its contract. The invariant: the positions with a bit below b have what they ask for with High 0. The measure is the number of bits left.
-use mathlib.Core.Path.{sym}
-use native.Mathlib.Nat.{le_trans}
-use native.Mathlib.Omega.{arith}
-use Rattle.automaton.specs.Board.{Board}
-use Rattle.simulation.proofs.Limits.{layers-most}
-use Rattle.arena.specs.Arena.{board_in}
-use Rattle.halves.specs.Rising.{Rising, Spoiling, rising}
+-- `spoilers::begin` meets its contract. The invariant: the positions with a bit below b have what they ask for with High 0.
+use Rattle.std.proofs.Common.{sym, le_trans, arith}
+use Rattle.arena.specs.Game.{board}
+use Rattle.halves.specs.Rising.{rising}
 use Rattle.spoilers.specs.Work.{Raising}
-use Rattle.spoilers.specs.Shape.{Known}
-use Rattle.spoilers.specs.Floor.{AllFloored}
 use Rattle.spoilers.proofs.Parts.{pushed_then, raising-kept, raising-most}
 use Rattle.spoilers.proofs.Through.{upto_start, upto_more}
-use Rattle.spoilers.proofs.Whole.{raising-start, all_spoiling, whole}
+use Rattle.spoilers.proofs.Whole.{known-start, raising-start, all_spoiling, whole}
 use Rattle.spoilers.proofs.Floors.{zeros-asked}
+use Rattle.spoilers.proofs.begin.Goals.{Start}
 use Rattle.spoilers.proofs.begin.Goals as goal
 
+-- the half is under way from the start
+starts : (c : Start) → Raising c.args.game.now (rising c.args.table.now c.args.risen.now c.args.rows.now c.args.olds.now)
+starts c = let a = c.args in raising-start a.game.now a.table.now a.risen.now a.rows.now a.olds.now c.requires.ready c.requires.roomy c.requires.blank
+
 pub loop-b-init : goal.loop-b-init
-loop-b-init c = upto_start _ _ _ _ _ (omega arith)
+loop-b-init c = upto_start _
 
 pub begin_layer-raised-requires : goal.begin_layer-raised-requires
-begin_layer-raised-requires c =
-    let first : Rising = rising c.args.table.now c.args.risen.now c.args.rows.now c.args.olds.now in
-    let s : Rising = rising c.loop-b.table c.loop-b.risen c.loop-b.rows c.loop-b.olds in
-    let begins : Raising c.args.g c.args.marks.now c.args.moves.now first =
-    let a = c.args in
-    raising-start a.g a.marks.now a.moves.now a.table.now a.risen.now a.rows.now a.olds.now c.requires.ready c.requires.roomy c.requires.blank in
-    let works : Raising c.args.g c.args.marks.now c.args.moves.now s = raising-kept begins c.loop-b.invariant.pushed c.loop-b.invariant.sized in
-    let known : Known c.args.g c.args.marks.now c.args.moves.now c.args.acc =
-    record { formed = c.requires.ready.formed; paired = c.requires.ready.paired; topped = c.requires.ready.topped; accepting = c.requires.accepting } in
-    record { raising = works; known = known; b_bound = omega (arith, c.loop-b-test.true, c.layers_of-layers.ensures) }
+begin_layer-raised-requires c = let done = c.loop-b.invariant in record { raising = raising-kept (starts (goal.at.begin_layer-raised-requires c).Start) done.pushed done.sized; known = known-start c.requires.ready c.requires.accepting; bit_in_game = omega (arith, c.layers_of-b-end.ensures) }
 
 pub overflow_add-raised : goal.overflow_add-raised
-overflow_add-raised c =
-    let B : Board = board_in c.args.g c.args.marks.now c.args.moves.now in
-    let first : Rising = rising c.args.table.now c.args.risen.now c.args.rows.now c.args.olds.now in
-    let begins : Raising c.args.g c.args.marks.now c.args.moves.now first =
-    let a = c.args in
-    raising-start a.g a.marks.now a.moves.now a.table.now a.risen.now a.rows.now a.olds.now c.requires.ready c.requires.roomy c.requires.blank in
-    omega (arith, raising-most begins (pushed_then B c.args.g.mode c.loop-b.invariant.pushed c.begin_layer-raised.ensures.pushed))
-
-pub overflow_add-b : goal.overflow_add-b
-overflow_add-b c = omega (arith, c.loop-b-test.true, c.layers_of-layers.ensures, layers-most c.args.g.mode)
-
-pub loop-b-smaller : goal.loop-b-smaller
-loop-b-smaller c = omega (arith, c.loop-b-test.true)
+overflow_add-raised c = omega (arith, raising-most (starts (goal.at.overflow_add-raised c).Start) (pushed_then (board c.args.game.now) c.args.game.now.arena.mode c.loop-b.invariant.pushed c.begin_layer-raised.ensures.pushed))
 
 pub loop-b-preserved : goal.loop-b-preserved
 loop-b-preserved c =
-    let B : Board = board_in c.args.g c.args.marks.now c.args.moves.now in
-    let first : Rising = rising c.args.table.now c.args.risen.now c.args.rows.now c.args.olds.now in
-    let s : Rising = rising c.loop-b.table c.loop-b.risen c.loop-b.rows c.loop-b.olds in
-    let a = c.args in
-    upto_more B a.g.mode (AllFloored B a.g.mode) first s _ _ _ _ c.loop-b.invariant c.begin_layer-raised.ensures.pushed
-    (record { risen = c.begin_layer-raised.auto.risen; rows = c.begin_layer-raised.auto.rows; olds = c.begin_layer-raised.auto.olds }) c.begin_layer-raised.ensures.all_floored (λ y h i j q n. le_trans (h i j q n) (c.begin_layer-raised.ensures.pushed.grown _))
+    upto_more c.loop-b.invariant c.begin_layer-raised.ensures.pushed (record { risen = c.begin_layer-raised.auto.risen; rows = c.begin_layer-raised.auto.rows; olds = c.begin_layer-raised.auto.olds })
+    c.begin_layer-raised.ensures.all_floored (λ y h i j q n. le_trans (h i j q n) (c.begin_layer-raised.ensures.pushed.grown _))
 
 pub returns : goal.returns
 returns c =
-    let B : Board = board_in c.args.g c.args.marks.now c.args.moves.now in
-    let s : Rising = rising c.loop-b.table c.loop-b.risen c.loop-b.rows c.loop-b.olds in
-    let ended : Spoiling B c.args.g.mode c.args.table.now s c.loop-b.raised =
     let a = c.args in
-    all_spoiling B a.g.mode a.table.now a.risen.now a.rows.now a.olds.now s c.requires.blank c.loop-b.invariant.pushed in
-    let a = c.args in
-    let half = whole B a.g.mode a.table.now a.risen.now a.rows.now a.olds.now s c.requires.blank c.loop-b.invariant.pushed c.requires.ready.formed
-    (λ b q r hb hq hr. zeros-asked B a.g.mode c.requires.ready.formed a.table.now c.requires.by_index b q r _ hb hq hr
-    (c.loop-b.invariant.each b (omega (arith, c.loop-b-test.false, c.layers_of-layers.ensures)) r hr q hq)) in
+    let B = board a.game.now in
+    let s = rising c.loop-b.table c.loop-b.risen c.loop-b.rows c.loop-b.olds in
+    let done = c.loop-b.invariant in
+    let ended = all_spoiling B a.game.now.arena.mode a.table.now a.risen.now a.rows.now a.olds.now s c.requires.blank done.pushed in
+    let half = whole B a.game.now.arena.mode a.table.now a.risen.now a.rows.now a.olds.now s c.requires.blank done.pushed c.requires.ready.formed
+    (λ b q r hb hq hr. zeros-asked B a.game.now.arena.mode c.requires.ready.formed a.table.now c.requires.zeros b q r _ hb hq hr (done.each b (omega (arith, c.layers_of-b-end.ensures)) r hr q hq)) in
     record { halved = rw c.requires.ready.paired half; value = sym ended.count; all_noted = ended.noted }

@@ -1,13 +1,10 @@
--- `spoilers::begin` meets its contract. The invariant: the positions with a bit below b have what they ask for with High 0. The measure is the number of bits left.
-use Prim.Native.Nat.{◌-◌}
-use Rattle.arena.specs.Arena.{board_in}
+-- `spoilers::begin` meets its contract. The invariant: the positions with a bit below b have what they ask for with High 0.
+use Rattle.arena.specs.Game.{board}
 use Rattle.halves.specs.Rising.{rising}
 use Rattle.spoilers.specs.Floor.{AllFloored}
 use Rattle.spoilers.proofs.Through.{Upto}
 use Rattle.spoilers.proofs.begin.Given as goal
 
 abbrev pub invariant-loop-b : goal.invariant-loop-b
-invariant-loop-b l = Upto (board_in l.g l.marks l.moves) l.g.mode (AllFloored (board_in l.g l.marks l.moves) l.g.mode) (rising l.initial.table l.initial.risen l.initial.rows l.initial.olds) (rising l.table l.risen l.rows l.olds) l.raised l.b
-
-abbrev pub decreases-loop-b : goal.decreases-loop-b
-decreases-loop-b l = l.layers - l.b
+invariant-loop-b l =
+    Upto (board l.game) l.game.arena.mode (AllFloored (board l.game) l.game.arena.mode) (rising l.initial.table l.initial.risen l.initial.rows l.initial.olds) (rising l.table l.risen l.rows l.olds) l.raised l.b

@@ -1,73 +1,41 @@
--- `spoilers::push` meets its contract. The invariant: all that is marked for the bits below b is heeded. The measure is the number of bits left.
-use mathlib.Core.Path.{sym}
-use native.Mathlib.Omega.{arith}
-use Rattle.automaton.specs.Board.{Board}
-use Rattle.simulation.proofs.Limits.{layers-most}
-use Rattle.arena.specs.Arena.{board_in}
-use Rattle.halves.specs.Rising.{Rising, Spoiling, rising}
+-- `spoilers::push` meets its contract. The invariant: all that is marked for the bits below b is heeded.
+use Rattle.std.proofs.Common.{sym, arith}
+use Rattle.arena.specs.Game.{board}
+use Rattle.halves.specs.Rising.{rising}
 use Rattle.spoilers.specs.Work.{Working}
-use Rattle.spoilers.specs.Shape.{Known}
-use Rattle.spoilers.specs.Front.{Layered}
 use Rattle.spoilers.proofs.Parts.{pushed_then, working_kept, raising-most}
-use Rattle.spoilers.proofs.Pushes.{layered_kept}
 use Rattle.spoilers.proofs.Through.{upto_start, upto_more}
-use Rattle.spoilers.proofs.Whole.{all_spoiling, whole}
+use Rattle.spoilers.proofs.Whole.{known-start, all_spoiling, whole}
+use Rattle.spoilers.proofs.Pushes.{layered_kept}
 use Rattle.spoilers.proofs.Calms.{working_start, calm-floor, calm_covered}
+use Rattle.spoilers.proofs.push.Goals.{Start}
 use Rattle.spoilers.proofs.push.Goals as goal
 
+-- the half is under way from the start
+starts : (c : Start) → Working c.args.game.now (rising c.args.table.now c.args.risen.now c.args.rows.now c.args.olds.now)
+starts c = let a = c.args in working_start a.game.now a.table.now a.risen.now a.rows.now a.olds.now c.requires.ready c.requires.roomy c.requires.capped (calm-floor (board a.game.now) a.game.now.arena.mode a.table.now a.grown.now a.columns.now c.requires.all_calm) c.requires.blank
+
 pub loop-b-init : goal.loop-b-init
-loop-b-init c = (omega arith, upto_start _ _ _ _ _ (omega arith))
+loop-b-init c = upto_start _
 
 pub layer-raised-requires : goal.layer-raised-requires
-layer-raised-requires c =
-    let B : Board = board_in c.args.g c.args.marks.now c.args.moves.now in
-    let first : Rising = rising c.args.table.now c.args.risen.now c.args.rows.now c.args.olds.now in
-    let s : Rising = rising c.loop-b.table c.loop-b.risen c.loop-b.rows c.loop-b.olds in
-    let begins : Working c.args.g c.args.marks.now c.args.moves.now first =
-    let a = c.args in
-    working_start a.g a.marks.now a.moves.now a.table.now a.risen.now a.rows.now a.olds.now
-    c.requires.ready c.requires.roomy c.requires.capped (calm-floor B a.g.mode a.table.now a.grown.now a.columns.now c.requires.all_calm) c.requires.blank in
-    let works : Working c.args.g c.args.marks.now c.args.moves.now s = working_kept begins c.loop-b.invariant.1.pushed c.loop-b.invariant.1.sized in
-    let known : Known c.args.g c.args.marks.now c.args.moves.now c.args.acc =
-    record { formed = c.requires.ready.formed; paired = c.requires.ready.paired; topped = c.requires.ready.topped; accepting = c.requires.accepting } in
-    record { working = works; reading = record { known = known; drawn = c.requires.into; words = c.requires.spacious.words }; mode_in_bounds = (c.requires.spacious.sets, omega (arith, c.loop-b-test.true, c.layers_of-layers.ensures)) }
+layer-raised-requires c = let done = c.loop-b.invariant in record { working = working_kept (starts (goal.at.layer-raised-requires c).Start) done.pushed done.sized; known = known-start c.requires.ready c.requires.accepting; reading = record { drawn = c.requires.into; words = c.requires.spacious.words }; sets = c.requires.spacious.sets; bit_in_game = omega (arith, c.layers_of-b-end.ensures) }
 
 pub overflow_add-raised : goal.overflow_add-raised
-overflow_add-raised c =
-    let B : Board = board_in c.args.g c.args.marks.now c.args.moves.now in
-    let first : Rising = rising c.args.table.now c.args.risen.now c.args.rows.now c.args.olds.now in
-    let begins : Working c.args.g c.args.marks.now c.args.moves.now first =
-    let a = c.args in
-    working_start a.g a.marks.now a.moves.now a.table.now a.risen.now a.rows.now a.olds.now
-    c.requires.ready c.requires.roomy c.requires.capped (calm-floor B a.g.mode a.table.now a.grown.now a.columns.now c.requires.all_calm) c.requires.blank in
-    omega (arith, raising-most begins.raising (pushed_then B c.args.g.mode c.loop-b.invariant.1.pushed c.layer-raised.ensures.pushed))
-
-pub overflow_add-b : goal.overflow_add-b
-overflow_add-b c = omega (arith, c.loop-b-test.true, c.layers_of-layers.ensures, layers-most c.args.g.mode)
-
-pub loop-b-smaller : goal.loop-b-smaller
-loop-b-smaller c = omega (arith, c.loop-b-test.true)
+overflow_add-raised c = omega (arith, raising-most ((starts (goal.at.overflow_add-raised c).Start).raising) (pushed_then (board c.args.game.now) c.args.game.now.arena.mode c.loop-b.invariant.pushed c.layer-raised.ensures.pushed))
 
 pub loop-b-preserved : goal.loop-b-preserved
 loop-b-preserved c =
-    let B : Board = board_in c.args.g c.args.marks.now c.args.moves.now in
-    let first : Rising = rising c.args.table.now c.args.risen.now c.args.rows.now c.args.olds.now in
-    let s : Rising = rising c.loop-b.table c.loop-b.risen c.loop-b.rows c.loop-b.olds in
-    let a = c.args in (
-      omega (arith, c.loop-b-test.true),
-      upto_more B a.g.mode (Layered B a.g.mode a.grown.now a.columns.now) first s _ _ _ _ c.loop-b.invariant.1 c.layer-raised.ensures.pushed
-          (record { risen = c.layer-raised.auto.risen; rows = c.layer-raised.auto.rows; olds = c.layer-raised.auto.olds }) c.layer-raised.ensures.layered (λ y h. layered_kept B a.g.mode c.layer-raised.ensures.pushed a.grown.now a.columns.now y h),
-    )
+    upto_more c.loop-b.invariant c.layer-raised.ensures.pushed (record { risen = c.layer-raised.auto.risen; rows = c.layer-raised.auto.rows; olds = c.layer-raised.auto.olds })
+    c.layer-raised.ensures.layered (layered_kept _ _ c.layer-raised.ensures.pushed c.args.grown.now c.args.columns.now)
 
 pub returns : goal.returns
 returns c =
-    let B : Board = board_in c.args.g c.args.marks.now c.args.moves.now in
-    let s : Rising = rising c.loop-b.table c.loop-b.risen c.loop-b.rows c.loop-b.olds in
-    let ended : Spoiling B c.args.g.mode c.args.table.now s c.loop-b.raised =
     let a = c.args in
-    all_spoiling B a.g.mode a.table.now a.risen.now a.rows.now a.olds.now s c.requires.blank c.loop-b.invariant.1.pushed in
-    let a = c.args in
-    let covered = calm_covered B a.g.mode c.requires.ready.formed a.grown.now a.columns.now c.requires.all_calm c.loop-b.invariant.1.pushed
-    (λ b h. c.loop-b.invariant.1.each b (omega (arith, c.loop-b-test.false, c.layers_of-layers.ensures))) in
-    let half = whole B a.g.mode a.table.now a.risen.now a.rows.now a.olds.now s c.requires.blank c.loop-b.invariant.1.pushed c.requires.ready.formed covered in
+    let B = board a.game.now in
+    let s = rising c.loop-b.table c.loop-b.risen c.loop-b.rows c.loop-b.olds in
+    let done = c.loop-b.invariant in
+    let ended = all_spoiling B a.game.now.arena.mode a.table.now a.risen.now a.rows.now a.olds.now s c.requires.blank done.pushed in
+    let half = whole B a.game.now.arena.mode a.table.now a.risen.now a.rows.now a.olds.now s c.requires.blank done.pushed c.requires.ready.formed
+    (calm_covered B a.game.now.arena.mode c.requires.ready.formed a.grown.now a.columns.now c.requires.all_calm done.pushed (λ b h. done.each b (omega (arith, c.layers_of-b-end.ensures)))) in
     record { halved = rw c.requires.ready.paired half; value = sym ended.count; all_noted = ended.noted }

@@ -9,7 +9,7 @@ use Rattle.automaton.specs.declared.Mode.{Mode}
 use Rattle.automaton.specs.Board.{Board}
 use Rattle.simulation.specs.Position.{pairs, positions}
 use Rattle.simulation.specs.Rules.{game}
-use Rattle.arena.specs.Arena.{board_in}
+use Rattle.arena.specs.Game.{board}
 use Rattle.halves.specs.Rising.{Rising}
 use Rattle.duplicators.specs.Growing.{Growing, Answered}
 use Rattle.duplicators.proofs.Part.{part_join}
@@ -21,16 +21,16 @@ use Rattle.sweep.proofs.first.Goals as goal
 
 pub begin-begun-requires : goal.begin-begun-requires
 begin-begun-requires c =
-    let B : Board = board_in c.args.g c.args.marks.now c.args.moves.now in
-    let m : Mode = c.args.g.mode in
+    let B : Board = board c.args.game.now in
+    let m : Mode = c.args.game.now.arena.mode in
     let lent : Lists = lists c.args.table.now c.args.risen.now c.args.rows.now c.args.olds.now c.args.grown.now c.args.columns.now in
     let zeros : (v : ℕ) → at lent.table v ≡ 0 = λ v. rw c.requires.table_value (cleared_at (positions B m) v) in
-    record { ready = c.requires.equipped.ready; accepting = c.requires.equipped.accepting; roomy = roomy_of lent c.requires.equipped; by_index = zeros; blank = c.requires.blank }
+    record { ready = c.requires.equipped.ready; accepting = c.requires.equipped.accepting; roomy = roomy_of lent c.requires.equipped; zeros = zeros; blank = c.requires.blank }
 
 pub dead_ends-ended-requires : goal.dead_ends-ended-requires
 dead_ends-ended-requires c =
     let lent : Lists = lists c.args.table.now c.args.risen.now c.args.rows.now c.args.olds.now c.args.grown.now c.args.columns.now in
-    let With : Lists → Type 0 = λ l. Equipped c.args.g c.args.marks.now c.args.moves.now l.table c.args.acc c.args.into.now c.args.onto.now l.risen l.rows l.olds l.grown l.columns in
+    let With : Lists → Type 0 = λ l. Equipped c.args.game.now l.table c.args.acc c.args.into.now c.args.onto.now l.risen l.rows l.olds l.grown l.columns in
     let begun : Lists = lists c.begin-begun.new.table c.begin-begun.new.risen c.begin-begun.new.rows c.begin-begun.new.olds lent.grown lent.columns in
     let like-begun : Alike lent begun = alike c.begin-begun.auto.table c.begin-begun.auto.risen c.begin-begun.auto.rows c.begin-begun.auto.olds refl refl in
     let opened : With begun = equipped_again c.requires.equipped like-begun in
@@ -39,10 +39,10 @@ dead_ends-ended-requires c =
 
 pub answer-answered-requires : goal.answer-answered-requires
 answer-answered-requires c =
-    let B : Board = board_in c.args.g c.args.marks.now c.args.moves.now in
-    let m : Mode = c.args.g.mode in
+    let B : Board = board c.args.game.now in
+    let m : Mode = c.args.game.now.arena.mode in
     let lent : Lists = lists c.args.table.now c.args.risen.now c.args.rows.now c.args.olds.now c.args.grown.now c.args.columns.now in
-    let With : Lists → Type 0 = λ l. Equipped c.args.g c.args.marks.now c.args.moves.now l.table c.args.acc c.args.into.now c.args.onto.now l.risen l.rows l.olds l.grown l.columns in
+    let With : Lists → Type 0 = λ l. Equipped c.args.game.now l.table c.args.acc c.args.into.now c.args.onto.now l.risen l.rows l.olds l.grown l.columns in
     let zeros : (v : ℕ) → at lent.table v ≡ 0 = λ v. rw c.requires.table_value (cleared_at (positions B m) v) in
     let begun : Lists = lists c.begin-begun.new.table c.begin-begun.new.risen c.begin-begun.new.rows c.begin-begun.new.olds lent.grown lent.columns in
     let like-begun : Alike lent begun = alike c.begin-begun.auto.table c.begin-begun.auto.risen c.begin-begun.auto.rows c.begin-begun.auto.olds refl refl in
@@ -56,10 +56,10 @@ answer-answered-requires c =
 
 pub all_rows-requires : goal.all_rows-requires
 all_rows-requires c =
-    let B : Board = board_in c.args.g c.args.marks.now c.args.moves.now in
-    let m : Mode = c.args.g.mode in
+    let B : Board = board c.args.game.now in
+    let m : Mode = c.args.game.now.arena.mode in
     let lent : Lists = lists c.args.table.now c.args.risen.now c.args.rows.now c.args.olds.now c.args.grown.now c.args.columns.now in
-    let With : Lists → Type 0 = λ l. Equipped c.args.g c.args.marks.now c.args.moves.now l.table c.args.acc c.args.into.now c.args.onto.now l.risen l.rows l.olds l.grown l.columns in
+    let With : Lists → Type 0 = λ l. Equipped c.args.game.now l.table c.args.acc c.args.into.now c.args.onto.now l.risen l.rows l.olds l.grown l.columns in
     let begun : Lists = lists c.begin-begun.new.table c.begin-begun.new.risen c.begin-begun.new.rows c.begin-begun.new.olds lent.grown lent.columns in
     let like-begun : Alike lent begun = alike c.begin-begun.auto.table c.begin-begun.auto.risen c.begin-begun.auto.rows c.begin-begun.auto.olds refl refl in
     let noted : Rising = record { table = begun.table; risen = begun.risen; rows = begun.rows; olds = begun.olds } in
@@ -67,14 +67,14 @@ all_rows-requires c =
     let like-ended : Alike lent ended = alike_more like-begun (alike c.dead_ends-ended.auto.table refl refl refl c.dead_ends-ended.auto.grown c.dead_ends-ended.auto.columns) in
     let still : With ended = equipped_again c.requires.equipped like-ended in
     let e = still in
-    record { states_le_most_states = e.ready.formed.few; states_in_bounds = (e.for_risen, e.for_olds, e.for_rows); covered = noted_covered B m lent.table noted c.begin-begun.ensures.all_noted }
+    record { states_le_most_states = e.ready.formed.few; rows_in_bounds = (e.for_risen, e.for_olds, e.for_rows); covered = noted_covered B m lent.table noted c.begin-begun.ensures.all_noted }
 
 pub overflow_add-result : goal.overflow_add-result
 overflow_add-result c =
-    let B : Board = board_in c.args.g c.args.marks.now c.args.moves.now in
-    let m : Mode = c.args.g.mode in
+    let B : Board = board c.args.game.now in
+    let m : Mode = c.args.game.now.arena.mode in
     let lent : Lists = lists c.args.table.now c.args.risen.now c.args.rows.now c.args.olds.now c.args.grown.now c.args.columns.now in
-    let With : Lists → Type 0 = λ l. Equipped c.args.g c.args.marks.now c.args.moves.now l.table c.args.acc c.args.into.now c.args.onto.now l.risen l.rows l.olds l.grown l.columns in
+    let With : Lists → Type 0 = λ l. Equipped c.args.game.now l.table c.args.acc c.args.into.now c.args.onto.now l.risen l.rows l.olds l.grown l.columns in
     let begun : Lists = lists c.begin-begun.new.table c.begin-begun.new.risen c.begin-begun.new.rows c.begin-begun.new.olds lent.grown lent.columns in
     let like-begun : Alike lent begun = alike c.begin-begun.auto.table c.begin-begun.auto.risen c.begin-begun.auto.rows c.begin-begun.auto.olds refl refl in
     let opened : With begun = equipped_again c.requires.equipped like-begun in
@@ -84,17 +84,17 @@ overflow_add-result c =
     let grown : Growing = record { table = answered.table; grown = answered.grown; columns = answered.columns } in
     let both : Answered B m unmarked grown (c.dead_ends-ended.result + c.answer-answered.result) = part_join c.requires.equipped.ready.formed opened.ready.entries c.dead_ends-ended.ensures.answered_in c.answer-answered.ensures.answered_in in
     let few : (c.begin-begun.result ≤ 139264) × (c.dead_ends-ended.result + c.answer-answered.result ≤ 139264) = (
-      omega (arith, c.begin-begun.ensures.value, rose-few c.requires.equipped.ready begun.table),
-      omega (arith, both.count, rose-few opened.ready answered.table),
+      omega (arith, c.begin-begun.ensures.value, rose-few c.args.game.now c.requires.equipped.ready begun.table),
+      omega (arith, both.count, rose-few c.args.game.now opened.ready answered.table),
     ) in
     omega (arith, few.0, few.1)
 
 pub overflow_add-result-2 : goal.overflow_add-result-2
 overflow_add-result-2 c =
-    let B : Board = board_in c.args.g c.args.marks.now c.args.moves.now in
-    let m : Mode = c.args.g.mode in
+    let B : Board = board c.args.game.now in
+    let m : Mode = c.args.game.now.arena.mode in
     let lent : Lists = lists c.args.table.now c.args.risen.now c.args.rows.now c.args.olds.now c.args.grown.now c.args.columns.now in
-    let With : Lists → Type 0 = λ l. Equipped c.args.g c.args.marks.now c.args.moves.now l.table c.args.acc c.args.into.now c.args.onto.now l.risen l.rows l.olds l.grown l.columns in
+    let With : Lists → Type 0 = λ l. Equipped c.args.game.now l.table c.args.acc c.args.into.now c.args.onto.now l.risen l.rows l.olds l.grown l.columns in
     let begun : Lists = lists c.begin-begun.new.table c.begin-begun.new.risen c.begin-begun.new.rows c.begin-begun.new.olds lent.grown lent.columns in
     let like-begun : Alike lent begun = alike c.begin-begun.auto.table c.begin-begun.auto.risen c.begin-begun.auto.rows c.begin-begun.auto.olds refl refl in
     let opened : With begun = equipped_again c.requires.equipped like-begun in
@@ -104,17 +104,17 @@ overflow_add-result-2 c =
     let grown : Growing = record { table = answered.table; grown = answered.grown; columns = answered.columns } in
     let both : Answered B m unmarked grown (c.dead_ends-ended.result + c.answer-answered.result) = part_join c.requires.equipped.ready.formed opened.ready.entries c.dead_ends-ended.ensures.answered_in c.answer-answered.ensures.answered_in in
     let few : (c.begin-begun.result ≤ 139264) × (c.dead_ends-ended.result + c.answer-answered.result ≤ 139264) = (
-      omega (arith, c.begin-begun.ensures.value, rose-few c.requires.equipped.ready begun.table),
-      omega (arith, both.count, rose-few opened.ready answered.table),
+      omega (arith, c.begin-begun.ensures.value, rose-few c.args.game.now c.requires.equipped.ready begun.table),
+      omega (arith, both.count, rose-few c.args.game.now opened.ready answered.table),
     ) in
     omega (arith, few.0, few.1)
 
 pub returns : goal.returns
 returns c =
-    let B : Board = board_in c.args.g c.args.marks.now c.args.moves.now in
-    let m : Mode = c.args.g.mode in
+    let B : Board = board c.args.game.now in
+    let m : Mode = c.args.game.now.arena.mode in
     let lent : Lists = lists c.args.table.now c.args.risen.now c.args.rows.now c.args.olds.now c.args.grown.now c.args.columns.now in
-    let With : Lists → Type 0 = λ l. Equipped c.args.g c.args.marks.now c.args.moves.now l.table c.args.acc c.args.into.now c.args.onto.now l.risen l.rows l.olds l.grown l.columns in
+    let With : Lists → Type 0 = λ l. Equipped c.args.game.now l.table c.args.acc c.args.into.now c.args.onto.now l.risen l.rows l.olds l.grown l.columns in
     let zeros : (v : ℕ) → at lent.table v ≡ 0 = λ v. rw c.requires.table_value (cleared_at (positions B m) v) in
     let begun : Lists = lists c.begin-begun.new.table c.begin-begun.new.risen c.begin-begun.new.rows c.begin-begun.new.olds lent.grown lent.columns in
     let like-begun : Alike lent begun = alike c.begin-begun.auto.table c.begin-begun.auto.risen c.begin-begun.auto.rows c.begin-begun.auto.olds refl refl in
@@ -128,10 +128,10 @@ returns c =
     let grown : Growing = record { table = answered.table; grown = answered.grown; columns = answered.columns } in
     let half : Halved (game B m) (pairs B m) (positions B m) begun.table answered.table =
     rest_halved B m c.requires.equipped.ready.formed unmarked marked answered.table opened.ready.entries
-    c.dead_ends-ended.ensures.answered_in (duplicators_half still.ready c.answer-answered.ensures.halved) in
+    c.dead_ends-ended.ensures.answered_in (duplicators_half c.args.game.now still.ready c.answer-answered.ensures.halved) in
     let both : Answered B m unmarked grown (c.dead_ends-ended.result + c.answer-answered.result) = part_join c.requires.equipped.ready.formed opened.ready.entries c.dead_ends-ended.ensures.answered_in c.answer-answered.ensures.answered_in in
     let left : Lists = lists answered.table c.all_rows.new.risen c.all_rows.new.rows c.all_rows.new.olds answered.grown answered.columns in
-    let done = sweep-done c.requires.equipped.ready begun.table answered.table left.risen answered.grown answered.columns
-    (spoilers_half c.requires.equipped.ready c.begin-begun.ensures.halved) half c.begin-begun.ensures.value (sym both.count)
+    let done = sweep-done c.args.game.now c.requires.equipped.ready begun.table answered.table left.risen answered.grown answered.columns
+    (spoilers_half c.args.game.now c.requires.equipped.ready c.begin-begun.ensures.halved) half c.begin-begun.ensures.value (sym both.count)
     (λ v. omega (arith, zeros v)) both.marked c.all_rows.ensures in
     record { value = omega (arith, done.0); table_after = done.1.0; poised = done.1.1 }

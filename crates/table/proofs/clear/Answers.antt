@@ -1,22 +1,17 @@
--- `table::clear` meets its contract: where an arena was opened, all of the table is filled with 0.
-use mathlib.Core.Path.{◌≡◌, sym, ap, ◌∙◌}
-use mathlib.Core.List.{List}
-use Prim.Native.Nat.{ℕ}
-use native.Mathlib.Omega.{arith}
-use lib.ListN.{length, replicate}
+-- `table::clear` meets its contract: where the game was opened, all of the table is filled with 0.
+use Rattle.std.proofs.Common.{◌≡◌, sym, ap, ◌∙◌, List, ℕ, length, replicate, arith}
+use Rattle.std.proofs.lemmas.Result.{err_from_is_err_and}
 use Rattle.games.specs.Game.{Game}
 use Rattle.games.specs.Lift.{cleared}
 use Rattle.automaton.specs.Answer.{accepted}
-use Rattle.simulation.proofs.Position.{positions_are}
-use Rattle.arena.specs.declared.Arena.{Arena}
-use Rattle.arena.specs.declared.Opened.TheVariants.{Open}
-use Rattle.arena.specs.Job.{Job, job_of, game_of}
 use Rattle.automaton.specs.Effect.{Effect}
-use Rattle.table.specs.Calls.{clearing}
-use Rattle.arena.specs.Arena.{board_in, opened, Ready}
-use Rattle.arena.proofs.Open.{open_ready, open_game}
-use Rattle.arena.proofs.Opening.{shut_effect, open_effect}
 use Rattle.automaton.proofs.Effects.{both}
+use Rattle.simulation.proofs.Position.{positions_are}
+use Rattle.arena.specs.Game.{board, Playable}
+use Rattle.arena.specs.Job.{Job, game_of}
+use Rattle.arena.proofs.Games.{opens_played, opens_playable}
+use Rattle.arena.proofs.Opening.{shut_effect, open_effect}
+use Rattle.table.specs.Calls.{clearing}
 use Rattle.table.proofs.clear.Goals as goal
 
 abbrev emptied : Job → Effect (List ℕ)
@@ -24,32 +19,26 @@ emptied j = record { answer = accepted; left = cleared (game_of j) }
 
 pub clear-requires : goal.clear-requires
 clear-requires c =
-    let job : Job = job_of c.args.a c.args.marks.now c.args.moves.now c.args.mode in
-    let table : List ℕ = c.args.table.now in
-    let arena : Arena = c.in-Open.g in
-    let is_open : opened job (length table) ≡ Open arena = sym c.for_table-opened.ensures ∙ c.in-Open.is in
-    let ready : Ready arena c.args.marks.now c.args.moves.now c.args.table.now = open_ready job table arena is_open in
-    let B = board_in arena c.args.marks.now c.args.moves.now in
-    omega (arith, ready.paired, ready.entries, positions_are B arena.mode)
+    let g = c.in_ok-game.game in
+    let ready : Playable g c.args.table.now = opens_playable c.args.job.now c.args.table.now g c.in_ok-game.ensures in
+    omega (arith, ready.paired, ready.entries, positions_are (board g) g.arena.mode)
 
-pub returns-in-Shut : goal.returns-in-Shut
+pub returns-in_err-game : goal.returns-in_err-game
 unfolding clearing
-returns-in-Shut c =
-    let job : Job = job_of c.args.a c.args.marks.now c.args.moves.now c.args.mode in
-    let table : List ℕ = c.args.table.now in
-    let both = both (sym (shut_effect job table table (emptied job) c.in-Shut.refusal (sym c.for_table-opened.ensures ∙ c.in-Shut.is))) in
-    record { result_value = both.0; table_after = both.1 }
+returns-in_err-game c =
+    let j = c.args.job.now in
+    let t = c.args.table.now in
+    let p = err_from_is_err_and c.from_residual.result c.from_residual.ensures.1 in
+    let e = both (sym (shut_effect j t t (emptied j) _ c.in_err-game.ensures)) in
+    record { result_value = rw (p.1, p.2) e.0; table_after = e.1 }
 
-pub returns-in-Open : goal.returns-in-Open
+pub returns : goal.returns
 unfolding clearing
-returns-in-Open c =
-    let job : Job = job_of c.args.a c.args.marks.now c.args.moves.now c.args.mode in
-    let table : List ℕ = c.args.table.now in
-    let arena : Arena = c.in-Open.g in
-    let is_open : opened job (length table) ≡ Open arena = sym c.for_table-opened.ensures ∙ c.in-Open.is in
-    let ready : Ready arena c.args.marks.now c.args.moves.now c.args.table.now = open_ready job table arena is_open in
-    let j = job in
-    let t = table in
-    let P : length t ≡ (game_of j).P = ready.entries ∙ sym (ap (λ (g : Game). g.P) (open_game j t arena is_open)) in
-    let e = both (sym (open_effect j t t (emptied j) arena is_open)) in
+returns c =
+    let j = c.args.job.now in
+    let t = c.args.table.now in
+    let g = c.in_ok-game.game in
+    let ready : Playable g t = opens_playable j t g c.in_ok-game.ensures in
+    let P : length t ≡ (game_of j).P = ready.entries ∙ sym (ap (λ (h : Game). h.P) (opens_played j t g c.in_ok-game.ensures)) in
+    let e = both (sym (open_effect j t t (emptied j) g.arena c.in_ok-game.ensures.0)) in
     record { result_value = e.0; table_after = c.clear.ensures ∙ ap (λ (n : ℕ). replicate n 0) P ∙ e.1 }

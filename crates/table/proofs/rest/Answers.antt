@@ -1,43 +1,31 @@
--- `table::rest` meets its contract: where an arena was opened, the answer is that of the test in it.
-use mathlib.Core.Path.{◌≡◌, sym, ap, ◌∙◌}
-use mathlib.Core.List.{List}
-use Prim.Native.Nat.{ℕ}
-use lib.ListN.{length}
+-- `table::rest` meets its contract: where the game was opened, the answer is that of the test in it.
+use Rattle.std.proofs.Common.{sym, ap, ◌∙◌}
+use Rattle.std.proofs.lemmas.Result.{err_from_is_err_and}
 use Rattle.games.specs.Game.{Game}
-use Rattle.arena.specs.declared.Arena.{Arena}
-use Rattle.arena.specs.declared.Opened.TheVariants.{Open}
-use Rattle.arena.specs.Job.{Job, job_of, game_of}
 use Rattle.automaton.specs.Answer.{Fault, unless}
-use Rattle.arena.specs.Arena.{opened, Ready}
+use Rattle.arena.specs.Job.{game_of}
+use Rattle.arena.proofs.Games.{opens_played, opens_playable}
+use Rattle.arena.proofs.Open.{shut_fault, open_faultless}
 use Rattle.table.specs.Calls.{rested, resting}
-use Rattle.arena.proofs.Open.{shut_fault, open_faultless, open_ready, open_game}
 use Rattle.table.proofs.rest.Goals as goal
 
 pub rest_in-requires : goal.rest_in-requires
-rest_in-requires c =
-    let job : Job = job_of c.args.a c.args.marks.now c.args.moves.now c.args.mode in
-    let table : List ℕ = c.args.table.now in
-    let arena : Arena = c.in-Open.g in
-    let is_open : opened job (length table) ≡ Open arena = sym c.for_table-opened.ensures ∙ c.in-Open.is in
-    let ready : Ready arena c.args.marks.now c.args.moves.now c.args.table.now = open_ready job table arena is_open in
-    ready
+rest_in-requires c = opens_playable c.args.job.now c.args.table.now c.in_ok-game.game c.in_ok-game.ensures
 
-pub returns-in-Shut : goal.returns-in-Shut
+pub returns-in_err-game : goal.returns-in_err-game
 unfolding resting
-returns-in-Shut c =
-    let job : Job = job_of c.args.a c.args.marks.now c.args.moves.now c.args.mode in
-    let table : List ℕ = c.args.table.now in
-    sym (ap (λ (f : Fault). unless f (rested (game_of job) table)) (shut_fault job table c.in-Shut.refusal (sym c.for_table-opened.ensures ∙ c.in-Shut.is)))
+returns-in_err-game c =
+    let j = c.args.job.now in
+    let t = c.args.table.now in
+    let p = err_from_is_err_and c.from_residual.result c.from_residual.ensures.1 in
+    rw (p.1, p.2) (sym (ap (λ (f : Fault). unless f (rested (game_of j) t)) (shut_fault j t _ c.in_err-game.ensures)))
 
-pub returns-in-Open : goal.returns-in-Open
+pub returns : goal.returns
 unfolding resting
-returns-in-Open c =
-    let job : Job = job_of c.args.a c.args.marks.now c.args.moves.now c.args.mode in
-    let table : List ℕ = c.args.table.now in
-    let arena : Arena = c.in-Open.g in
-    let is_open : opened job (length table) ≡ Open arena = sym c.for_table-opened.ensures ∙ c.in-Open.is in
-    let j = job in
-    let t = table in
+returns c =
+    let j = c.args.job.now in
+    let t = c.args.table.now in
+    let g = c.in_ok-game.game in
     c.rest_in.ensures
-    ∙ ap (λ (g : Game). rested g t) (sym (open_game j t arena is_open))
-    ∙ sym (ap (λ (f : Fault). unless f (rested (game_of j) t)) (open_faultless j t arena is_open))
+    ∙ ap (λ (h : Game). rested h t) (sym (opens_played j t g c.in_ok-game.ensures))
+    ∙ sym (ap (λ (f : Fault). unless f (rested (game_of j) t)) (open_faultless j t g.arena c.in_ok-game.ensures.0))

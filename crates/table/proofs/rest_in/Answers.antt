@@ -1,56 +1,34 @@
 -- `table::rest_in` meets its contract: refusal 10 is decided first, then the lowest position not at rest is looked for.
-use mathlib.Core.Path.{◌≡◌, sym, ap, ◌∙◌}
-use mathlib.Core.List.{List}
-use Prim.Native.Nat.{ℕ, ◌≤◌, ◌<◌}
-use native.Mathlib.Omega.{arith}
-use borrow.Author.Tests.{lt-ltb, le-ltb}
-use lib.ListN.{length}
+use Rattle.std.proofs.Common.{◌≡◌, sym, ap, ◌∙◌, ℕ, Some, None, length}
 use Rattle.games.specs.Game.{Game}
-use Rattle.automaton.specs.First.{first}
-use Rattle.arena.specs.Arena.{board_in, game_in}
-use Rattle.asks.proofs.Keys.{indexable}
+use Rattle.automaton.specs.Answer.{none}
+use Rattle.automaton.specs.First.{first_below}
+use Rattle.automaton.specs.declared.Refusal.TheVariants.{AboveCeiling}
+use Rattle.automaton.proofs.Fault.{fails_at-first, fails_at-none}
+use Rattle.arena.specs.Game.{played}
+use Rattle.arena.specs.declared.game.Game as lent
 use Rattle.entries.specs.Found.{above, restless}
-use Rattle.table.specs.Calls.{rest_at, rested}
-use Rattle.table.proofs.Effects.{above_found, above-none, rested-above, rested-at}
+use Rattle.table.specs.Answers.{found}
+use Rattle.table.specs.Calls.{entry_fault}
+use Rattle.table.proofs.Effects.{rested-above, rested-found}
 use Rattle.table.proofs.rest_in.Goals as goal
 
-pub returns-then-above-table : goal.returns-then-above-table
-returns-then-above-table c =
-    let game : Game = game_in c.args.g c.args.marks.now c.args.moves.now in
-    let table : List ℕ = c.args.table.now in
-    let found : c.first_above-above.result ≡ first (above game.T table) 0 (length table) = c.first_above-above.ensures ∙ ap (λ (T : ℕ). first (above T table) 0 (length table)) c.requires.topped in
-    sym (rested-above game table _ (above_found game table c.first_above-above.result found (omega (arith, c.if-above-table.true))))
-
-pub fill-requires : goal.fill-requires
-fill-requires c =
-    let both = indexable (board_in c.args.g c.args.marks.now c.args.moves.now) c.requires.formed in
-    record { states_le_most_states = both.0; letters_in_bounds = both.1.0; ascending = both.1.1 }
-
-pub first_restless-restless-requires : goal.first_restless-restless-requires
-first_restless-restless-requires c = record { ready = c.requires; indexed = c.fill.ensures }
-
-pub returns-then-restless-table : goal.returns-then-restless-table
-returns-then-restless-table c =
-    let game : Game = game_in c.args.g c.args.marks.now c.args.moves.now in
-    let table : List ℕ = c.args.table.now in
-    let found : c.first_above-above.result ≡ first (above game.T table) 0 (length table) = c.first_above-above.ensures ∙ ap (λ (T : ℕ). first (above T table) 0 (length table)) c.requires.topped in
-    let answered : rested game table ≡ rest_at game.P c.first_restless-restless.result =
-    let P : length table ≡ game.P = c.requires.entries in
-    let lowest = c.first_restless-restless.ensures ∙ ap (λ (n : ℕ). first (restless game table) 0 n) P in
-    rested-at game table c.first_restless-restless.result
-    (above-none game table c.first_above-above.result found (omega (arith, c.if-above-table.false))) lowest in
-    let found : c.first_restless-restless.result < game.P = omega (arith, c.if-restless-table.true, c.requires.entries) in
-    sym (answered ∙ simp (lt-ltb _ _ found))
+pub returns-in-Some : goal.returns-in-Some
+returns-in-Some c =
+    let game : Game = played c.args.game.now in
+    let t = c.args.table.now in
+    let first-above : Some c.in-Some.above ≡ first_below (above game.T t) (length t) = c.in-Some.ensures ∙ ap (λ (T : ℕ). first_below (above T t) (length t)) c.requires.topped in
+    sym (rested-above game t _ (fails_at-first AboveCeiling (above game.T t) (length t) c.in-Some.above first-above))
 
 pub returns : goal.returns
 returns c =
-    let game : Game = game_in c.args.g c.args.marks.now c.args.moves.now in
-    let table : List ℕ = c.args.table.now in
-    let found : c.first_above-above.result ≡ first (above game.T table) 0 (length table) = c.first_above-above.ensures ∙ ap (λ (T : ℕ). first (above T table) 0 (length table)) c.requires.topped in
-    let answered : rested game table ≡ rest_at game.P c.first_restless-restless.result =
-    let P : length table ≡ game.P = c.requires.entries in
-    let lowest = c.first_restless-restless.ensures ∙ ap (λ (n : ℕ). first (restless game table) 0 n) P in
-    rested-at game table c.first_restless-restless.result
-    (above-none game table c.first_above-above.result found (omega (arith, c.if-above-table.false))) lowest in
-    let none : game.P ≤ c.first_restless-restless.result = omega (arith, c.if-restless-table.false, c.requires.entries) in
-    sym (answered ∙ simp (le-ltb _ _ none))
+    let game : Game = played c.args.game.now in
+    let t = c.args.table.now in
+    let not-above : None ≡ first_below (above game.T t) (length t) = c.in_default.ensures ∙ ap (λ (T : ℕ). first_below (above T t) (length t)) c.requires.topped in
+    let low : entry_fault game t ≡ none = fails_at-none AboveCeiling (above game.T t) (length t) not-above in
+    ap found (
+    c.first_restless.ensures
+    ∙ ap (λ (g : lent.Game). first_below (restless (played g) t) (length t)) c.filled-index.ensures
+    ∙ ap (first_below (restless game t)) c.requires.entries
+    )
+    ∙ sym (rested-found game t low)

@@ -1,129 +1,90 @@
--- `judge` meets its contract: what `limits` answered decides the first two lines, each test one line more, and `named` the last.
-use mathlib.Core.Path.{◌≡◌, sym, ap, ◌∙◌}
-use mathlib.Core.List.{List}
-use Prim.Native.Nat.{ℕ}
-use lib.ListN.{take, drop}
-use borrow.Author.Tests.{lt-ltb, le-ltb, le-leb, lt-leb}
-use Rattle.automaton.specs.Answer.{accepted, Fault, first_fault, unless}
-use Rattle.automaton.specs.Check.{limited}
+-- `judge` meets its contract: what `limits` answered decides the first two lines, each test one line more, and the mode the last.
+use Rattle.std.proofs.Common.{◌≡◌, ◌∙◌, Err, Ok, Option, Result, None, Some, List, ℕ, ap, drop, inl, inr, le-ltb, le-leb, lt-ltb, sym, take}
+use Rattle.std.proofs.lemmas.Bool.{lt-leb}
+use Rattle.std.proofs.lemmas.Result.{err_from_is_err_and}
+use Rattle.std.specs.Option.{ok_or}
+use Rattle.automaton.specs.Answer.{accepted, answered, done, fails, Fault, fault, first_fault, none, unless}
+use Rattle.automaton.specs.Check.{limited, mode_fault}
+use Rattle.automaton.specs.Limits.{is_unknown, name_of}
+use Rattle.automaton.specs.declared.Mode.{Mode}
+use Rattle.automaton.specs.declared.Refusal.{Refusal}
+use Rattle.automaton.specs.declared.Refusal.TheVariants.{Marks, ModeNumber, Outside, ProgramLimits, Start, Unsorted}
 use Rattle.automaton.proofs.Fault.{faults_passed, faults_stopped}
 use Rattle.automaton.proofs.One.{checked-none, checked-fault}
 use Rattle.text.specs.declared.survey.Survey.{Survey}
 use Rattle.text.specs.Survey.{judgements}
-use Rattle.std.proofs.Common.{inl, inr}
 use Rattle.text.proofs.judge.Goals as goal
 
-abbrev limit-lines : Survey → List Fault
-limit-lines s = take 2 (judgements s)
+module _ (s : Survey) where
+  abbrev limit_lines : List Fault
+  limit_lines = take 2 (judgements s)
 
-abbrev more-lines : Survey → List Fault
-more-lines s = drop 2 (judgements s)
+  abbrev more_lines : List Fault
+  more_lines = drop 2 (judgements s)
 
-abbrev Decided : (i : ℕ) → Survey → Type 0
-Decided i s = unless (first_fault (drop i (judgements s))) accepted ≡ unless (first_fault (judgements s)) accepted
+  -- past the limits the lines behind them decide
+  past_limits : (r : Result (Unit {0}) Refusal) {x : Unit {0}} → r ≡ Ok x → answered done r ≡ limited s.automaton.states s.automaton.letters
+      → (f : Fault) → first_fault more_lines ≡ f → unless f accepted ≡ unless (first_fault (judgements s)) accepted
+  unfolding limited
+  past_limits r e h f d = ap (λ g. unless g accepted) (sym d ∙ sym (faults_passed limit_lines more_lines (checked-none _ r e h)))
 
-pub returns-in-Refused : goal.returns-in-Refused
+-- a number that is no mode's, and one that is
+mode-refused : (m : ℕ) (r : Refusal) → Err r ≡ ok_or (name_of m) ModeNumber → mode_fault m ≡ fault r
+mode-refused m r e = go (name_of m) e
+  where
+    go : (o : Option Mode) → Err r ≡ ok_or o ModeNumber → fails (is_unknown o) ModeNumber ≡ fault r
+    go (Some x) e = cc
+    go None e = cc
+
+mode-known : (m : ℕ) (x : Mode) → Ok x ≡ ok_or (name_of m) ModeNumber → mode_fault m ≡ none
+mode-known m x e = go (name_of m) e
+  where
+    go : (o : Option Mode) → Ok x ≡ ok_or o ModeNumber → fails (is_unknown o) ModeNumber ≡ none
+    go (Some x) e = cc
+    go None e = cc
+
+pub returns-in_err-limits : goal.returns-in_err-limits
 unfolding limited
-returns-in-Refused c =
-    let s = c.args.s in
-    let e = checked-fault (first_fault (limit-lines s)) c.limits-limited.result c.in-Refused.refusal c.in-Refused.is c.limits-limited.ensures in
-    ap (λ f. unless f accepted) (sym (faults_stopped (limit-lines s) (more-lines s) c.in-Refused.refusal e))
+returns-in_err-limits c =
+    let s = c.args.survey in
+    let e = checked-fault (first_fault (limit_lines s)) c.limits.result _ c.in_err-limits.was c.limits.ensures in
+    let p = err_from_is_err_and c.from_residual.result c.from_residual.ensures.1 in
+    rw (p.1, p.2) (ap (λ f. unless f accepted) (sym (faults_stopped (limit_lines s) (more_lines s) _ e)))
 
 pub returns-then-states-gt-STATES : goal.returns-then-states-gt-STATES
-unfolding limited
 returns-then-states-gt-STATES c =
-    let limited-survey : Survey = c.args.s in
-    let past-limits : Decided 2 (limited-survey) =
-    let s = limited-survey in
-    let within = checked-none (first_fault (limit-lines s)) c.limits-limited.result c.in-Sound.is c.limits-limited.ensures in
-    ap (λ f. unless f accepted) (sym (faults_passed (limit-lines s) (more-lines s) within)) in
-    elim c.then-states-gt-STATES.either [
+    past_limits c.args.survey c.limits.result c.in_ok-limits.was c.limits.ensures (fault ProgramLimits) (elim c.then-states-gt-STATES.either [
       | inl w ↦ simp (lt-ltb _ _ w)
       | inr w ↦ simp (le-ltb _ _ w.0, lt-ltb _ _ w.1)
-    ] ∙ past-limits
+    ])
 
-pub returns-then-strayed-accepts : goal.returns-then-strayed-accepts
-unfolding limited
-returns-then-strayed-accepts c =
-    let limited-survey : Survey = c.args.s in
-    let survey : Survey = limited-survey in
-    let past-limits : Decided 2 (limited-survey) =
-    let s = limited-survey in
-    let within = checked-none (first_fault (limit-lines s)) c.limits-limited.result c.in-Sound.is c.limits-limited.ensures in
-    ap (λ f. unless f accepted) (sym (faults_passed (limit-lines s) (more-lines s) within)) in
-    let past-program-limits : Decided 3 (survey) = (simp (le-ltb _ _ c.if-states-gt-STATES.false, le-ltb _ _ c.if-letters-gt-LETTERS.false)) ∙ past-limits in
-    (simp (lt-ltb _ _ c.if-strayed-accepts.true)) ∙ past-program-limits
+pub returns-in-Some : goal.returns-in-Some
+returns-in-Some c =
+    past_limits c.args.survey c.limits.result c.in_ok-limits.was c.limits.ensures (fault (Marks c.in-Some.strayed))
+    (simp (le-ltb _ _ c.if-states-gt-STATES.false, le-ltb _ _ c.if-letters-gt-LETTERS.false, c.in-Some.is))
 
 pub returns-then-states-start : goal.returns-then-states-start
-unfolding limited
 returns-then-states-start c =
-    let limited-survey : Survey = c.args.s in
-    let survey : Survey = limited-survey in
-    let past-limits : Decided 2 (limited-survey) =
-    let s = limited-survey in
-    let within = checked-none (first_fault (limit-lines s)) c.limits-limited.result c.in-Sound.is c.limits-limited.ensures in
-    ap (λ f. unless f accepted) (sym (faults_passed (limit-lines s) (more-lines s) within)) in
-    let past-program-limits : Decided 3 (survey) = (simp (le-ltb _ _ c.if-states-gt-STATES.false, le-ltb _ _ c.if-letters-gt-LETTERS.false)) ∙ past-limits in
-    let past-marks : Decided 4 (survey) = (simp (le-ltb _ _ c.if-strayed-accepts.false)) ∙ past-program-limits in
-    (simp (le-leb _ _ c.if-states-start.true)) ∙ past-marks
+    past_limits c.args.survey c.limits.result c.in_ok-limits.was c.limits.ensures (fault Start)
+    (simp (le-ltb _ _ c.if-states-gt-STATES.false, le-ltb _ _ c.if-letters-gt-LETTERS.false, c.in_default.is, le-leb _ _ c.if-states-start.true))
 
-pub returns-then-outside-moves : goal.returns-then-outside-moves
-unfolding limited
-returns-then-outside-moves c =
-    let limited-survey : Survey = c.args.s in
-    let survey : Survey = limited-survey in
-    let past-limits : Decided 2 (limited-survey) =
-    let s = limited-survey in
-    let within = checked-none (first_fault (limit-lines s)) c.limits-limited.result c.in-Sound.is c.limits-limited.ensures in
-    ap (λ f. unless f accepted) (sym (faults_passed (limit-lines s) (more-lines s) within)) in
-    let past-program-limits : Decided 3 (survey) = (simp (le-ltb _ _ c.if-states-gt-STATES.false, le-ltb _ _ c.if-letters-gt-LETTERS.false)) ∙ past-limits in
-    let past-marks : Decided 4 (survey) = (simp (le-ltb _ _ c.if-strayed-accepts.false)) ∙ past-program-limits in
-    let past-start : Decided 5 (survey) = (simp (lt-leb _ _ c.if-states-start.false)) ∙ past-marks in
-    (simp (lt-ltb _ _ c.if-outside-moves.true)) ∙ past-start
+pub returns-in-Some-outside : goal.returns-in-Some-outside
+returns-in-Some-outside c =
+    past_limits c.args.survey c.limits.result c.in_ok-limits.was c.limits.ensures (fault (Outside c.in-Some-outside.outside))
+    (simp (le-ltb _ _ c.if-states-gt-STATES.false, le-ltb _ _ c.if-letters-gt-LETTERS.false, c.in_default.is, lt-leb _ _ c.if-states-start.false, c.in-Some-outside.is))
 
-pub returns-then-unsorted-moves : goal.returns-then-unsorted-moves
-unfolding limited
-returns-then-unsorted-moves c =
-    let limited-survey : Survey = c.args.s in
-    let survey : Survey = limited-survey in
-    let past-limits : Decided 2 (limited-survey) =
-    let s = limited-survey in
-    let within = checked-none (first_fault (limit-lines s)) c.limits-limited.result c.in-Sound.is c.limits-limited.ensures in
-    ap (λ f. unless f accepted) (sym (faults_passed (limit-lines s) (more-lines s) within)) in
-    let past-program-limits : Decided 3 (survey) = (simp (le-ltb _ _ c.if-states-gt-STATES.false, le-ltb _ _ c.if-letters-gt-LETTERS.false)) ∙ past-limits in
-    let past-marks : Decided 4 (survey) = (simp (le-ltb _ _ c.if-strayed-accepts.false)) ∙ past-program-limits in
-    let past-start : Decided 5 (survey) = (simp (lt-leb _ _ c.if-states-start.false)) ∙ past-marks in
-    let past-outside : Decided 6 (survey) = (simp (le-ltb _ _ c.if-outside-moves.false)) ∙ past-start in
-    (simp (lt-ltb _ _ c.if-unsorted-moves.true)) ∙ past-outside
+pub returns-in-Some-unsorted : goal.returns-in-Some-unsorted
+returns-in-Some-unsorted c =
+    past_limits c.args.survey c.limits.result c.in_ok-limits.was c.limits.ensures (fault (Unsorted c.in-Some-unsorted.unsorted))
+    (simp (le-ltb _ _ c.if-states-gt-STATES.false, le-ltb _ _ c.if-letters-gt-LETTERS.false, c.in_default.is, lt-leb _ _ c.if-states-start.false, c.in_default-outside.is, c.in-Some-unsorted.is))
 
-pub returns-in-Unknown : goal.returns-in-Unknown
-unfolding limited
-returns-in-Unknown c =
-    let limited-survey : Survey = c.args.s in
-    let survey : Survey = limited-survey in
-    let past-limits : Decided 2 (limited-survey) =
-    let s = limited-survey in
-    let within = checked-none (first_fault (limit-lines s)) c.limits-limited.result c.in-Sound.is c.limits-limited.ensures in
-    ap (λ f. unless f accepted) (sym (faults_passed (limit-lines s) (more-lines s) within)) in
-    let past-program-limits : Decided 3 (survey) = (simp (le-ltb _ _ c.if-states-gt-STATES.false, le-ltb _ _ c.if-letters-gt-LETTERS.false)) ∙ past-limits in
-    let past-marks : Decided 4 (survey) = (simp (le-ltb _ _ c.if-strayed-accepts.false)) ∙ past-program-limits in
-    let past-start : Decided 5 (survey) = (simp (lt-leb _ _ c.if-states-start.false)) ∙ past-marks in
-    let past-outside : Decided 6 (survey) = (simp (le-ltb _ _ c.if-outside-moves.false)) ∙ past-start in
-    let past-unsorted : Decided 7 (survey) = (simp (le-ltb _ _ c.if-unsorted-moves.false)) ∙ past-outside in
-    (simp (sym c.named-named.ensures, c.in-Unknown.is)) ∙ past-unsorted
+pub returns-in_err-try_from : goal.returns-in_err-try_from
+returns-in_err-try_from c =
+    let p = err_from_is_err_and c.from_residual-in_err-try_from.result c.from_residual-in_err-try_from.ensures.1 in
+    rw (p.1, p.2) (past_limits c.args.survey c.limits.result c.in_ok-limits.was c.limits.ensures (fault _)
+    (simp (le-ltb _ _ c.if-states-gt-STATES.false, le-ltb _ _ c.if-letters-gt-LETTERS.false, c.in_default.is, lt-leb _ _ c.if-states-start.false, c.in_default-outside.is, c.in_default-unsorted.is, mode-refused c.args.survey.mode _ (sym c.in_err-try_from.was ∙ c.try_from.ensures))))
 
-pub returns-in-Known : goal.returns-in-Known
-unfolding limited
-returns-in-Known c =
-    let limited-survey : Survey = c.args.s in
-    let survey : Survey = limited-survey in
-    let past-limits : Decided 2 (limited-survey) =
-    let s = limited-survey in
-    let within = checked-none (first_fault (limit-lines s)) c.limits-limited.result c.in-Sound.is c.limits-limited.ensures in
-    ap (λ f. unless f accepted) (sym (faults_passed (limit-lines s) (more-lines s) within)) in
-    let past-program-limits : Decided 3 (survey) = (simp (le-ltb _ _ c.if-states-gt-STATES.false, le-ltb _ _ c.if-letters-gt-LETTERS.false)) ∙ past-limits in
-    let past-marks : Decided 4 (survey) = (simp (le-ltb _ _ c.if-strayed-accepts.false)) ∙ past-program-limits in
-    let past-start : Decided 5 (survey) = (simp (lt-leb _ _ c.if-states-start.false)) ∙ past-marks in
-    let past-outside : Decided 6 (survey) = (simp (le-ltb _ _ c.if-outside-moves.false)) ∙ past-start in
-    let past-unsorted : Decided 7 (survey) = (simp (le-ltb _ _ c.if-unsorted-moves.false)) ∙ past-outside in
-    (simp (sym c.named-named.ensures, c.in-Known.is)) ∙ past-unsorted
+pub returns : goal.returns
+returns c =
+    past_limits c.args.survey c.limits.result c.in_ok-limits.was c.limits.ensures none
+    (simp (le-ltb _ _ c.if-states-gt-STATES.false, le-ltb _ _ c.if-letters-gt-LETTERS.false, c.in_default.is, lt-leb _ _ c.if-states-start.false, c.in_default-outside.is, c.in_default-unsorted.is, mode-known c.args.survey.mode _ (sym c.in_ok-try_from.was ∙ c.try_from.ensures)))

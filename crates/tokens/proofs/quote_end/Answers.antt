@@ -1,9 +1,8 @@
 -- `tokens::quote_end` meets its contract: at every turn the text that is left ends where the quoted text ends.
-use mathlib.Core.Path.{sym, ◌∙◌}
-use native.Mathlib.Omega.{arith}
+use Rattle.std.proofs.Common.{sym, ◌∙◌, rules, arith}
 use Rattle.tokens.proofs.Ends.{quote_ends, quote_escapes, quote_more, quote_last, quote_cut, quote_none}
-use borrow.Author.Rules.{rules}
 use Rattle.tokens.proofs.quote_end.Goals as goal
+use Rattle.tokens.proofs.quote_end.Goals.{else-i-text-via-then-i-text+else-text-i-eq34, else-i-text-via-else-i-text}
 
 pub returns-then-a-eq34 : goal.returns-then-a-eq34
 returns-then-a-eq34 c =
@@ -20,11 +19,6 @@ loop-i-preserved c =
     let s = c.args.text.now in
     (search rules, sym (quote_more s c.loop-i.i (omega arith) c.if-a-eq34.false c.if-a-eq92.false) ∙ c.loop-i.invariant.1)
 
-pub returns-then-i-text : goal.returns-then-i-text
-returns-then-i-text c =
-    let s = c.args.text.now in
-    sym (quote_none s c.loop-i.i c.if-i-text.true) ∙ c.loop-i.invariant.1
-
 pub returns-then-text-i-eq34 : goal.returns-then-text-i-eq34
 returns-then-text-i-eq34 c =
     let s = c.args.text.now in
@@ -33,4 +27,7 @@ returns-then-text-i-eq34 c =
 pub returns : goal.returns
 returns c =
     let s = c.args.text.now in
-    sym (quote_cut s c.loop-i.i (omega arith) c.if-text-i-eq34.false) ∙ c.loop-i.invariant.1
+    elim c.else-i-text.branch [
+      | else-i-text-via-then-i-text+else-text-i-eq34 w ↦ sym (quote_cut s c.loop-i.i (omega arith) w.if-text-i-eq34.false) ∙ c.loop-i.invariant.1
+      | else-i-text-via-else-i-text w ↦ sym (quote_none s c.loop-i.i (omega arith)) ∙ c.loop-i.invariant.1
+    ]

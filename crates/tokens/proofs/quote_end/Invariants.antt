@@ -1,7 +1,5 @@
 -- `tokens::quote_end` meets its contract: at every turn the text that is left ends where the quoted text ends.
-use mathlib.Core.Path.{◌≡◌}
-use Prim.Native.Nat.{◌-◌, ◌≤◌}
-use lib.ListN.{length, drop}
+use Rattle.std.proofs.Common.{◌≡◌, ◌-◌, ◌≤◌, length, drop}
 use Rattle.tokens.specs.Tokens.{unquoted}
 use Rattle.tokens.proofs.quote_end.Given as goal
 

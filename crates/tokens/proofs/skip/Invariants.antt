@@ -1,7 +1,5 @@
 -- `tokens::skip` meets its contract: at every turn the gap that is left, inside the comments open so far, ends where the gap ends.
-use mathlib.Core.Path.{◌≡◌}
-use Prim.Native.Nat.{◌-◌, ◌≤◌}
-use lib.ListN.{length, drop}
+use Rattle.std.proofs.Common.{◌≡◌, ◌-◌, ◌≤◌, length, drop}
 use Rattle.tokens.specs.Tokens.{gap}
 use Rattle.tokens.proofs.skip.Given as goal
 

@@ -1,33 +1,39 @@
 -- `tokens::token_at` meets its contract: the first byte tells what the token is, and each part that is called gives it.
-use mathlib.Core.Path.{sym, ap, ◌∙◌}
-use Prim.Native.Nat.{ℕ, ◌+◌, ◌<◌, ◌≤◌}
-use native.Mathlib.Omega.{arith}
-use lib.ListN.{length}
-use borrow.Author.Tests.{eq-eqb, ne_eqb, le-leb, lt-leb}
-use Rattle.tokens.specs.Tokens.{digit, sorted, token_at}
+use Rattle.std.proofs.Common.{◌≡◌, sym, ap, ◌∙◌, Bool, List, ℕ, ◌+◌, ◌-◌, length, take, drop, length-take, length-drop, arith, rules, eq-eqb, ne_eqb, le-leb}
+use Rattle.std.specs.List.{prefix_len}
+use Rattle.std.proofs.lemmas.Bool.{lt-leb}
+use Rattle.tokens.specs.declared.Sort.{Sort}
+use Rattle.tokens.specs.Tokens.{digit, past, sorted, token_at, wordly}
 use Rattle.tokens.proofs.Bounds.{past_bound, word_bound}
+use Rattle.std.proofs.lemmas.List.{take_rest}
+use Rattle.std.proofs.lemmas.List.Sums.{prefix_len-le-length}
 use Rattle.tokens.proofs.token_at.Goals as goal
 
 pub returns-then-text-i : goal.returns-then-text-i
 unfolding token_at
-returns-then-text-i c = c.plain.ensures ∙ simp (le-leb _ _ c.if-text-i.true)
+returns-then-text-i c = c.sorted.ensures ∙ simp (le-leb _ _ c.if-text-i.true)
 
-pub slice_bounds-read_number-count : goal.slice_bounds-read_number-count
-slice_bounds-read_number-count c =
-    let digits-bound : (c.args.i < c.digits_end-j.result) × (c.digits_end-j.result ≤ length c.args.text.now) =
-    let b = past_bound digit c.args.text.now c.args.i c.if-text-i.false (sym c.is_digit.ensures ∙ c.if-is_digit.true) in
-    (omega arith, omega arith) in
-    let b = digits-bound in omega arith
+-- the place behind a run of bytes, from how many of them the rest of the text begins with
+run-end : (p : ℕ → Bool) (s : List ℕ) (i n : ℕ) → n ≡ prefix_len p (take (length s - i) (drop i s)) → i + n ≡ past p s i
+run-end p s i n e = ap (λ (k : ℕ). i + k) (e ∙ ap (prefix_len p) (take_rest s i))
 
-pub slice_bounds-read_number-start : goal.slice_bounds-read_number-start
-slice_bounds-read_number-start c =
-    let b = past_bound digit c.args.text.now c.args.i c.if-text-i.false (sym c.is_digit.ensures ∙ c.if-is_digit.true) in
-    omega arith
+pub overflow_add-j : goal.overflow_add-j
+overflow_add-j c =
+    let m = prefix_len-le-length digit (take (length c.args.text.now - c.args.i) (drop c.args.i c.args.text.now)) in
+    let l = length-take (length c.args.text.now - c.args.i) (drop c.args.i c.args.text.now) in
+    omega (arith, length-drop c.args.i c.args.text.now)
 
 pub slice_bounds-read_number-end : goal.slice_bounds-read_number-end
 slice_bounds-read_number-end c =
-    let b = past_bound digit c.args.text.now c.args.i c.if-text-i.false (sym c.is_digit.ensures ∙ c.if-is_digit.true) in
-    omega arith
+    let s = c.args.text.now in
+    let b = past_bound digit s c.args.i c.if-text-i.false (sym c.is_digit.ensures ∙ c.if-is_digit.true) in
+    omega (arith, run-end digit s c.args.i c.digits.result c.digits.ensures)
+
+pub overflow_add-j-then-is_letter : goal.overflow_add-j-then-is_letter
+overflow_add-j-then-is_letter c =
+    let b = word_bound c.args.text.now c.args.i c.if-text-i.false (sym c.is_letter.ensures ∙ c.if-is_letter.true) in
+    let e = run-end wordly c.args.text.now c.args.i c.word_len.result c.word_len.ensures in
+    search rules
 
 pub returns-then-is_digit : goal.returns-then-is_digit
 unfolding token_at
@@ -36,12 +42,14 @@ returns-then-is_digit c =
       lt-leb _ _ c.if-text-i.false,
       sym c.is_digit.ensures ∙ c.if-is_digit.true,
       c.read_number.ensures,
-      c.digits_end-j.ensures,
+      run-end digit c.args.text.now c.args.i c.digits.result c.digits.ensures,
     )
 
 pub word-requires : goal.word-requires
 word-requires c =
-    let b = word_bound c.args.text.now c.args.i c.if-text-i.false (sym c.is_letter.ensures ∙ c.if-is_letter.true) in
+    let s = c.args.text.now in
+    let b = word_bound s c.args.i c.if-text-i.false (sym c.is_letter.ensures ∙ c.if-is_letter.true) in
+    let e = run-end wordly s c.args.i c.word_len.result c.word_len.ensures in
     (omega arith, omega arith)
 
 pub returns-then-is_letter : goal.returns-then-is_letter
@@ -51,7 +59,7 @@ returns-then-is_letter c =
       lt-leb _ _ c.if-text-i.false,
       sym c.is_digit.ensures ∙ c.if-is_digit.false,
       sym c.is_letter.ensures ∙ c.if-is_letter.true,
-      c.word_end.ensures,
+      run-end wordly c.args.text.now c.args.i c.word_len.result c.word_len.ensures,
     )
 
 pub returns-then-b-eq34 : goal.returns-then-b-eq34
@@ -79,10 +87,10 @@ returns-then-b-eq45 c =
 pub returns : goal.returns
 unfolding token_at
 returns c =
-    c.plain-2.ensures ∙ rw (
+    c.sorted-2.ensures ∙ rw (
       lt-leb _ _ c.if-text-i.false,
       sym c.is_digit.ensures ∙ c.if-is_digit.false,
       sym c.is_letter.ensures ∙ c.if-is_letter.false,
       ne_eqb _ _ c.if-b-eq34.false,
       ne_eqb _ _ c.if-b-eq45.false,
-    ) (ap (λ (k : ℕ). sorted k c.args.i (c.args.i + 1)) c.sign.ensures)
+    ) (ap (λ (k : Sort). sorted k c.args.i (c.args.i + 1)) c.sign.ensures)

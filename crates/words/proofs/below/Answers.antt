@@ -1,7 +1,5 @@
 -- `words::below` meets its contract: the digits of 2 ^ n - 1 are 1 below n and 0 from n on.
-use mathlib.Core.Path.{◌≡◌, ap}
-use Prim.Native.Nat.{ℕ, ◌*◌, ◌-◌, ◌%◌, ◌^◌}
-use native.Mathlib.Omega.{arith}
+use Rattle.std.proofs.Common.{◌≡◌, ap, ℕ, ◌*◌, ◌-◌, ◌%◌, ◌^◌, arith}
 use Rattle.words.proofs.Operations.{bit_of, below_made}
 use Rattle.words.proofs.below.Goals as goal
 

@@ -1,5 +1,5 @@
 -- `words::has` meets its contract: digit x is the lowest of the word that is shifted down by x.
-use mathlib.Core.Path.{refl}
+use Rattle.std.proofs.Common.{refl}
 use Rattle.words.proofs.Operations.{digit_at}
 use Rattle.words.proofs.has.Goals as goal
 

@@ -1,6 +1,5 @@
 -- `words::minus` meets its contract: the complement of b has what b has not.
-use Prim.Native.Nat.{◌-◌, ◌^◌}
-use native.Mathlib.Omega.{arith}
+use Rattle.std.proofs.Common.{◌-◌, ◌^◌, arith}
 use lib.Bits.{and_lt}
 use lib.Pow.{ones_sub-lt}
 use Rattle.words.proofs.Digits.{dig-and, dig-not}

@@ -1,5 +1,5 @@
 -- `asks::scan::high` meets its contract. The invariant: the greater of the greatest so far and of the highest among the moves
--- from i on is the highest of all. The measure is the number of moves left.
+-- from i on is the highest of all.
 use mathlib.Core.Path.{ap}
 use native.Mathlib.Omega.{arith}
 use Rattle.games.specs.Game.{at}
@@ -11,7 +11,7 @@ use Rattle.asks.proofs.scan.high.Goals as goal
 pub loop-i-preserved : goal.loop-i-preserved
 loop-i-preserved c =
     let a = c.args in
-    let step = high-step (at a.table.now) (spot_of a.s a.marks.now a.moves.now) c.loop-i.i a.s.hi (omega arith) in
+    let step = high-step (at a.table.now) (spot_of a.s a.game.now.marks.now a.game.now.moves.now) c.loop-i.i a.s.hi (omega arith) in
     let entry = ap (at a.table.now) c.spot.ensures in
     elim c.if-greatest-entry.branch [
       | then-greatest-entry w ↦ omega (arith, step, entry)
@@ -21,4 +21,4 @@ loop-i-preserved c =
 pub returns : goal.returns
 returns c =
     let a = c.args in
-    omega (arith, high_end (at a.table.now) (spot_of a.s a.marks.now a.moves.now) c.loop-i.i a.s.hi (omega arith))
+    omega (arith, high_end (at a.table.now) (spot_of a.s a.game.now.marks.now a.game.now.moves.now) c.loop-i.i a.s.hi (omega arith))

@@ -1,5 +1,5 @@
 -- `asks::scan::high` meets its contract. The invariant: the greater of the greatest so far and of the highest among the moves
--- from i on is the highest of all. The measure is the number of moves left.
+-- from i on is the highest of all.
 use mathlib.Core.Path.{◌≡◌}
 use mathlib.Core.List.{map}
 use Prim.Native.Nat.{◌-◌, ◌≤◌, max}
@@ -9,7 +9,4 @@ use Rattle.asks.specs.Steps.{spot_of, ahead}
 use Rattle.asks.proofs.scan.high.Given as goal
 
 abbrev pub invariant-loop-i : goal.invariant-loop-i
-invariant-loop-i l = (l.s.lo ≤ l.i) × (l.i ≤ l.s.hi) × (max l.greatest (highest (at l.table) (map (spot_of l.s l.marks l.moves) (ascending l.i (l.s.hi - l.i)))) ≡ highest (at l.table) (ahead l.s l.marks l.moves))
-
-abbrev pub decreases-loop-i : goal.decreases-loop-i
-decreases-loop-i l = l.s.hi - l.i
+invariant-loop-i l = (l.s.lo ≤ l.i) × (l.i ≤ l.s.hi) × (max l.greatest (highest (at l.table) (map (spot_of l.s l.game.marks.now l.game.moves.now) (ascending l.i (l.s.hi - l.i)))) ≡ highest (at l.table) (ahead l.s l.game.marks.now l.game.moves.now))

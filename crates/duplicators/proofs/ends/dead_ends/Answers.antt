@@ -2,7 +2,7 @@
 use mathlib.Core.List.{List}
 use Prim.Native.Nat.{ℕ}
 use Rattle.automaton.specs.Board.{Board}
-use Rattle.arena.specs.Arena.{board_in}
+use Rattle.arena.specs.Game.{board}
 use Rattle.duplicators.specs.Growing.{growing}
 use Rattle.duplicators.proofs.Ending.{ended-all, ended-none}
 use Rattle.duplicators.proofs.Part.{part_none}
@@ -10,12 +10,12 @@ use Rattle.duplicators.proofs.ends.dead_ends.Goals as goal
 
 pub returns-then-any-eq0 : goal.returns-then-any-eq0
 returns-then-any-eq0 c =
-    let board : Board = board_in c.args.g c.args.marks.now c.args.moves.now in
+    let B : Board = board c.args.game.now in
     let found : List ℕ = c.dead_letters-any.new.found in
-    record { answered_in = part_none board c.args.g.mode (growing c.args.table.now c.args.grown.now c.args.columns.now); all_ended = ended-none board c.args.g.mode c.args.onto.now found c.requires.onto c.dead_letters-any.ensures.all_dead c.args.table.now c.dead_letters-any.result c.dead_letters-any.ensures.all_in c.if-any-eq0.true }
+    record { answered_in = part_none B c.args.game.now.arena.mode (growing c.args.table.now c.args.grown.now c.args.columns.now); all_ended = ended-none B c.args.game.now.arena.mode c.args.onto.now found c.requires.onto c.dead_letters-any.ensures.all_dead c.args.table.now c.dead_letters-any.result c.dead_letters-any.ensures.all_in c.if-any-eq0.true }
 
 pub returns : goal.returns
 returns c =
-    let board : Board = board_in c.args.g c.args.marks.now c.args.moves.now in
+    let B : Board = board c.args.game.now in
     let found : List ℕ = c.dead_letters-any.new.found in
-    record { answered_in = c.end_layers.ensures.answered_in; all_ended = ended-all board c.args.g.mode c.args.onto.now found c.requires.onto c.dead_letters-any.ensures.all_dead c.end_layers.new.table c.end_layers.ensures.each_found }
+    record { answered_in = c.end_layers.ensures.answered_in; all_ended = ended-all B c.args.game.now.arena.mode c.args.onto.now found c.requires.onto c.dead_letters-any.ensures.all_dead c.end_layers.new.table c.end_layers.ensures.each_found }

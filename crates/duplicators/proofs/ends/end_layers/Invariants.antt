@@ -1,13 +1,8 @@
 -- `duplicators::ends::end_layers` meets its contract: the candidates in the layers before b are at rest.
-use Prim.Native.Nat.{◌-◌, ◌≤◌}
-use Rattle.simulation.specs.Position.{layers}
-use Rattle.arena.specs.Arena.{board_in}
+use Rattle.arena.specs.Game.{board}
 use Rattle.duplicators.specs.Growing.{growing}
 use Rattle.duplicators.proofs.Ending.{Ended}
 use Rattle.duplicators.proofs.ends.end_layers.Given as goal
 
 abbrev pub invariant-loop-b : goal.invariant-loop-b
-invariant-loop-b l = (l.b ≤ layers l.g.mode) × Ended (board_in l.g l.marks l.moves) l.g.mode l.found (growing l.initial.table l.initial.grown l.initial.columns) (growing l.table l.grown l.columns) l.b l.count
-
-abbrev pub decreases-loop-b : goal.decreases-loop-b
-decreases-loop-b l = layers l.g.mode - l.b
+invariant-loop-b l = Ended (board l.game) l.game.arena.mode l.found (growing l.initial.table l.initial.grown l.initial.columns) (growing l.table l.grown l.columns) l.b l.count

@@ -1,48 +1,46 @@
 -- `duplicators::layers::answer_layer` meets its contract: the rows that are not left are at rest.
-use mathlib.Core.Path.{◌∙◌, subst}
+use mathlib.Core.Path.{subst}
 use Prim.Native.Nat.{ℕ}
 use native.Mathlib.Omega.{arith}
 use Rattle.automaton.specs.Board.{Board}
-use Rattle.arena.specs.Arena.{board_in}
+use Rattle.arena.specs.Game.{board}
 use Rattle.duplicators.specs.Growing.{Growing, growing}
 use Rattle.games.specs.Game.{at}
-use Rattle.words.specs.Word.{Pop, Joined}
-use Rattle.duplicators.proofs.Part.{part-few}
+use Rattle.words.specs.Word.{Joined}
+use Rattle.duplicators.proofs.Part.{parts-few}
 use Rattle.duplicators.proofs.Whole.{layer-start, layer-more, layer-end, prepared_again, stirred_again}
 use Rattle.duplicators.proofs.layers.answer_layer.Goals as goal
 
-pub loop-left-init : goal.loop-left-init
-loop-left-init c =
-    let board : Board = board_in c.args.g c.args.marks.now c.args.moves.now in
+pub loop-q-init : goal.loop-q-init
+loop-q-init c =
+    let B : Board = board c.args.game.now in
     let first : Growing = growing c.args.table.now c.args.grown.now c.args.columns.now in
-    let m = c.args.g.mode in
-    layer-start board m c.args.b first c.args.risen.now c.args.rows.now c.args.olds.now
-    (subst (λ (e : ℕ). Joined (at c.args.rows.now c.args.b) (at c.args.rows.now e) c.join-touched.result) c.eased-eased.ensures c.join-touched.ensures) c.below.ensures c.meet-left.ensures c.requires.layer_stirred
+    let m = c.args.game.now.arena.mode in
+    rw (c.into_iter-q-iterator.ensures.into_iter_gives, c.members-q-items.ensures)
+    (layer-start B m c.args.b first c.args.risen.now c.args.rows.now c.args.olds.now
+    (subst (λ (e : ℕ). Joined (at c.args.rows.now c.args.b) (at c.args.rows.now e) c.join.result) c.eased-eased.ensures c.join.ensures) c.below.ensures c.meet-touched.ensures c.requires.layer_stirred)
 
 pub answer_red-count-requires : goal.answer_red-count-requires
 answer_red-count-requires c =
     let first : Growing = growing c.args.table.now c.args.grown.now c.args.columns.now in
-    let here : Growing = growing c.loop-left.table c.loop-left.grown c.loop-left.columns in
-    let popped : Pop c.loop-left.left c.lowest-q.result c.rest-left.result = rw c.lowest-q.ensures c.rest-left.ensures in
+    let here : Growing = growing c.loop-q.table c.loop-q.grown c.loop-q.columns in
+    let popped = c.in-Some.ensures.steps.1 in
     let F = c.requires.prepared.ready.formed in
-    let p = popped in
-    let q = c.loop-left.invariant.within _ p.here in
-    record { prepared = prepared_again c.args.g c.args.marks.now c.args.moves.now c.args.acc c.args.into.now c.args.onto.now c.args.risen.now c.args.rows.now c.args.olds.now first here c.loop-left.invariant.part c.requires.prepared; b_bound = (c.requires.b_bound, q); red_stirred = stirred_again c.loop-left.invariant.part F c.args.risen.now c.args.rows.now c.args.olds.now c.args.b _ c.requires.b_bound q (c.requires.layer_stirred _ q) }
+    let q = c.loop-q.invariant.within _ popped.here in
+    record { prepared = prepared_again c.args.game.now c.args.acc c.args.into.now c.args.onto.now c.args.risen.now c.args.rows.now c.args.olds.now first here c.loop-q.invariant.part c.requires.prepared; in_range = (c.requires.b_bound, q); red_stirred = stirred_again c.loop-q.invariant.part F c.args.risen.now c.args.rows.now c.args.olds.now c.args.b _ c.requires.b_bound q (c.requires.layer_stirred _ q) }
 
 pub overflow_add-count : goal.overflow_add-count
-overflow_add-count c =
-    let o = c.requires.prepared.ready in
-    omega (arith, part-few c.loop-left.invariant.part o.formed o.entries, part-few c.answer_red-count.ensures.answered_in o.formed (c.loop-left.invariant.part.entries ∙ o.entries))
+overflow_add-count c = omega (arith, parts-few c.requires.prepared.ready.formed c.requires.prepared.ready.entries c.loop-q.invariant.part c.answer_red-count.ensures.answered_in)
 
-pub loop-left-preserved : goal.loop-left-preserved
-loop-left-preserved c =
-    let board : Board = board_in c.args.g c.args.marks.now c.args.moves.now in
-    let popped : Pop c.loop-left.left c.lowest-q.result c.rest-left.result = rw c.lowest-q.ensures c.rest-left.ensures in
+pub loop-q-preserved : goal.loop-q-preserved
+loop-q-preserved c =
+    let B : Board = board c.args.game.now in
+    let popped = c.in-Some.ensures.steps.1 in
     let o = c.requires.prepared.ready in
-    layer-more board c.args.g.mode c.args.b o.formed o.entries c.requires.b_bound popped c.loop-left.invariant c.answer_red-count.ensures.answered_in c.answer_red-count.ensures.row_still
+    layer-more B c.args.game.now.arena.mode c.args.b o.formed o.entries c.requires.b_bound popped c.loop-q.invariant c.answer_red-count.ensures.answered_in c.answer_red-count.ensures.row_still
 
 pub returns : goal.returns
 returns c =
-    let board : Board = board_in c.args.g c.args.marks.now c.args.moves.now in
-    let both = layer-end board c.args.g.mode c.args.b c.loop-left-test.false c.loop-left.invariant in
+    let B : Board = board c.args.game.now in
+    let both = layer-end B c.args.game.now.arena.mode c.args.b c.in-None.ensures.steps.0 c.loop-q.invariant in
     record { answered_in = both.0; layer_still = both.1 }

@@ -1,11 +1,8 @@
 -- `duplicators::layers::answer_layer` meets its contract: the rows that are not left are at rest.
-use Rattle.arena.specs.Arena.{board_in}
+use Rattle.arena.specs.Game.{board}
 use Rattle.duplicators.specs.Growing.{growing}
 use Rattle.duplicators.proofs.Whole.{Layer}
 use Rattle.duplicators.proofs.layers.answer_layer.Given as goal
 
-abbrev pub invariant-loop-left : goal.invariant-loop-left
-invariant-loop-left l = Layer (board_in l.g l.marks l.moves) l.g.mode l.b (growing l.initial.table l.initial.grown l.initial.columns) (growing l.table l.grown l.columns) l.left l.count
-
-abbrev pub decreases-loop-left : goal.decreases-loop-left
-decreases-loop-left l = l.left
+abbrev pub invariant-loop-q : goal.invariant-loop-q
+invariant-loop-q l = Layer (board l.game) l.game.arena.mode l.b (growing l.initial.table l.initial.grown l.initial.columns) (growing l.table l.grown l.columns) l.q-iterator.left l.count

@@ -3,7 +3,7 @@ use mathlib.Core.Path.{◌≡◌, refl, sym, subst}
 use mathlib.Core.Bool.{true}
 use Prim.Native.Nat.{ℕ, ◌+◌, ◌*◌, min}
 use Rattle.automaton.specs.Board.{Board}
-use Rattle.arena.specs.Arena.{board_in}
+use Rattle.arena.specs.Game.{board}
 use Rattle.games.specs.Game.{at}
 use Rattle.simulation.specs.Rules.{eased}
 use Rattle.duplicators.specs.Fresh.{Fresh}
@@ -14,32 +14,32 @@ use Rattle.duplicators.proofs.layers.answer_red.Goals as goal
 
 pub returns-then-fresh-eq0 : goal.returns-then-fresh-eq0
 returns-then-fresh-eq0 c =
-    let board : Board = board_in c.args.g c.args.marks.now c.args.moves.now in
-    let fresh : Fresh c.args.acc c.minus-others.result (at c.args.risen.now (c.args.b * c.args.g.states + c.args.q)) (at c.args.risen.now (eased c.args.g.mode true c.args.b * c.args.g.states + c.args.q)) c.fresh_in-fresh.result =
-    subst (λ (e : ℕ). Fresh c.args.acc c.minus-others.result (at c.args.risen.now (c.args.b * c.args.g.states + c.args.q)) (at c.args.risen.now (e * c.args.g.states + c.args.q)) c.fresh_in-fresh.result)
+    let B : Board = board c.args.game.now in
+    let fresh : Fresh c.args.acc c.minus-others.result (at c.args.risen.now (c.args.b * c.args.game.now.arena.states + c.args.q)) (at c.args.risen.now (eased c.args.game.now.arena.mode true c.args.b * c.args.game.now.arena.states + c.args.q)) c.fresh_in-fresh.result =
+    subst (λ (e : ℕ). Fresh c.args.acc c.minus-others.result (at c.args.risen.now (c.args.b * c.args.game.now.arena.states + c.args.q)) (at c.args.risen.now (e * c.args.game.now.arena.states + c.args.q)) c.fresh_in-fresh.result)
     c.eased.ensures c.fresh_in-fresh.ensures in
-    record { answered_in = part_none _ _ _; row_still = fresh-none board c.args.g.mode c.requires.prepared.ready.formed c.args.acc c.requires.prepared.accepting c.args.table.now c.args.risen.now c.args.rows.now c.args.olds.now c.args.b c.args.q c.below.result c.minus-others.result c.fresh_in-fresh.result _ c.below.ensures c.minus-others.ensures fresh refl c.if-fresh-eq0.true c.requires.red_stirred }
+    record { answered_in = part_none _ _ _; row_still = fresh-none B c.args.game.now.arena.mode c.requires.prepared.ready.formed c.args.acc c.requires.prepared.accepting c.args.table.now c.args.risen.now c.args.rows.now c.args.olds.now c.args.b c.args.q c.below.result c.minus-others.result c.fresh_in-fresh.result _ c.below.ensures c.minus-others.ensures fresh refl c.if-fresh-eq0.true c.requires.red_stirred }
 
 pub answer_row-requires : goal.answer_row-requires
 answer_row-requires c =
-    let board : Board = board_in c.args.g c.args.marks.now c.args.moves.now in
-    let fresh : Fresh c.args.acc c.minus-others.result (at c.args.risen.now (c.args.b * c.args.g.states + c.args.q)) (at c.args.risen.now (eased c.args.g.mode true c.args.b * c.args.g.states + c.args.q)) c.fresh_in-fresh.result =
-    subst (λ (e : ℕ). Fresh c.args.acc c.minus-others.result (at c.args.risen.now (c.args.b * c.args.g.states + c.args.q)) (at c.args.risen.now (e * c.args.g.states + c.args.q)) c.fresh_in-fresh.result)
+    let B : Board = board c.args.game.now in
+    let fresh : Fresh c.args.acc c.minus-others.result (at c.args.risen.now (c.args.b * c.args.game.now.arena.states + c.args.q)) (at c.args.risen.now (eased c.args.game.now.arena.mode true c.args.b * c.args.game.now.arena.states + c.args.q)) c.fresh_in-fresh.result =
+    subst (λ (e : ℕ). Fresh c.args.acc c.minus-others.result (at c.args.risen.now (c.args.b * c.args.game.now.arena.states + c.args.q)) (at c.args.risen.now (e * c.args.game.now.arena.states + c.args.q)) c.fresh_in-fresh.result)
     c.eased.ensures c.fresh_in-fresh.ensures in
-    let old : c.lesser-old.result ≡ min (at c.args.olds.now (c.args.b * c.args.g.states + c.args.q)) (at c.args.olds.now (eased c.args.g.mode true c.args.b * c.args.g.states + c.args.q)) =
-    subst (λ (e : ℕ). c.lesser-old.result ≡ min (at c.args.olds.now (c.args.b * c.args.g.states + c.args.q)) (at c.args.olds.now (e * c.args.g.states + c.args.q)))
-    c.eased.ensures c.lesser-old.ensures in
+    let old : c.min-old.result ≡ min (at c.args.olds.now (c.args.b * c.args.game.now.arena.states + c.args.q)) (at c.args.olds.now (eased c.args.game.now.arena.mode true c.args.b * c.args.game.now.arena.states + c.args.q)) =
+    subst (λ (e : ℕ). c.min-old.result ≡ min (at c.args.olds.now (c.args.b * c.args.game.now.arena.states + c.args.q)) (at c.args.olds.now (e * c.args.game.now.arena.states + c.args.q)))
+    c.eased.ensures c.min-old.ensures in
     let o = c.requires.prepared in
-    let B = board in
-    let m = c.args.g.mode in
+    let B = B in
+    let m = c.args.game.now.arena.mode in
     let t = c.args.table.now in
-    let stirred : RowStirred B m t c.args.b c.args.q c.fresh_in-fresh.result c.lesser-old.result = red-row board c.args.g.mode c.requires.prepared.ready.formed c.args.acc c.requires.prepared.accepting c.args.table.now c.args.risen.now c.args.rows.now c.args.olds.now c.args.b c.args.q c.below.result c.minus-others.result c.fresh_in-fresh.result c.lesser-old.result c.below.ensures c.minus-others.ensures fresh old c.requires.red_stirred in
+    let stirred : RowStirred B m t c.args.b c.args.q c.fresh_in-fresh.result c.min-old.result = red-row B c.args.game.now.arena.mode c.requires.prepared.ready.formed c.args.acc c.requires.prepared.accepting c.args.table.now c.args.risen.now c.args.rows.now c.args.olds.now c.args.b c.args.q c.below.result c.minus-others.result c.fresh_in-fresh.result c.min-old.result c.below.ensures c.minus-others.ensures fresh old c.requires.red_stirred in
     record {
-      working = record { ready = o.ready; spacious = o.spacious; rowed = c.row_at-w.ensures.rowed };
+      working = record { ready = o.ready; spacious = o.spacious; rowed = c.of-w.ensures.rowed };
       accepting = o.accepting;
       into = o.drawn_into;
       onto = o.drawn_onto;
-      within = fresh-within board c.args.g.mode c.requires.prepared.ready.formed c.args.acc c.requires.prepared.accepting c.args.table.now c.args.risen.now c.args.rows.now c.args.olds.now c.args.b c.args.q c.below.result c.minus-others.result c.fresh_in-fresh.result c.lesser-old.result c.below.ensures c.minus-others.ensures fresh old;
-      row_stirred = subst (λ (b : ℕ). RowStirred B m t b c.row_at-w.result.q c.fresh_in-fresh.result c.lesser-old.result) (sym c.row_at-w.ensures.b_value.0)
-          (subst (λ (q : ℕ). RowStirred B m t c.args.b q c.fresh_in-fresh.result c.lesser-old.result) (sym c.row_at-w.ensures.b_value.1) stirred);
+      within = fresh-within B c.args.game.now.arena.mode c.requires.prepared.ready.formed c.args.acc c.requires.prepared.accepting c.args.table.now c.args.risen.now c.args.rows.now c.args.olds.now c.args.b c.args.q c.below.result c.minus-others.result c.fresh_in-fresh.result c.min-old.result c.below.ensures c.minus-others.ensures fresh old;
+      row_stirred = subst (λ (b : ℕ). RowStirred B m t b c.of-w.result.q c.fresh_in-fresh.result c.min-old.result) (sym c.of-w.ensures.numbers.0)
+          (subst (λ (q : ℕ). RowStirred B m t c.args.b q c.fresh_in-fresh.result c.min-old.result) (sym c.of-w.ensures.numbers.1) stirred);
     }

@@ -3,7 +3,7 @@ use mathlib.Core.List.{List}
 use Prim.Native.Nat.{ℕ}
 use native.Mathlib.Omega.{arith}
 use Rattle.automaton.specs.Board.{Board}
-use Rattle.arena.specs.Arena.{board_in}
+use Rattle.arena.specs.Game.{board}
 use Rattle.levels.specs.Lows.{AllWithin}
 use Rattle.duplicators.specs.Rows.{RowFound}
 use Rattle.duplicators.proofs.Found.{found_within, found_row, found_covers, row_done}
@@ -11,20 +11,20 @@ use Rattle.duplicators.proofs.rows.answer_row.Goals as goal
 
 pub returns-then-few : goal.returns-then-few
 returns-then-few c =
-    let board : Board = board_in c.args.g c.args.marks.now c.args.moves.now in
+    let B : Board = board c.args.game.now in
     let found : List ℕ = c.reach_all-count.new.found in
-    let covers : RowFound board c.args.g.mode c.args.table.now c.args.w.b c.args.w.q found c.args.old =
-    found_row board c.args.g.mode c.requires.working.ready.formed c.args.into.now c.requires.into c.args.table.now c.args.w.b c.args.w.q c.args.fresh c.args.old found
+    let covers : RowFound B c.args.game.now.arena.mode c.args.table.now c.args.w.b c.args.w.q found c.args.old =
+    found_row B c.args.game.now.arena.mode c.requires.working.ready.formed c.args.into.now c.requires.into c.args.table.now c.args.w.b c.args.w.q c.args.fresh c.args.old found
     c.reach_all-count.ensures.found c.requires.row_stirred in
     let o = c.requires.working in
-    record { answered_in = c.scan_all.ensures.answered_in; row_still = row_done o.ready.formed c.args.w.b c.args.w.q found o.rowed.bit o.rowed.red c.scan_all.ensures.answered_in (found_covers board c.args.g.mode c.args.table.now found c.args.w.b c.args.w.q c.args.old covers) c.scan_all.ensures.found_still }
+    record { answered_in = c.raise_all.ensures.answered_in; row_still = row_done o.ready.formed c.args.w.b c.args.w.q found o.rowed.bit o.rowed.red c.raise_all.ensures.answered_in (found_covers B c.args.game.now.arena.mode c.args.table.now found c.args.w.b c.args.w.q c.args.old covers) c.raise_all.ensures.found_still }
 
 pub level_row-requires : goal.level_row-requires
 level_row-requires c =
-    let board : Board = board_in c.args.g c.args.marks.now c.args.moves.now in
+    let B : Board = board c.args.game.now in
     let found : List ℕ = c.reach_all-count.new.found in
-    let within : AllWithin c.args.g.letters c.args.g.states found = found_within board c.args.g.mode c.requires.working.ready.formed c.args.into.now c.requires.into c.args.fresh found c.requires.within c.reach_all-count.ensures.found in
-    let covers : RowFound board c.args.g.mode c.args.table.now c.args.w.b c.args.w.q found c.args.old =
-    found_row board c.args.g.mode c.requires.working.ready.formed c.args.into.now c.requires.into c.args.table.now c.args.w.b c.args.w.q c.args.fresh c.args.old found
+    let within : AllWithin c.args.game.now.arena.letters c.args.game.now.arena.states found = found_within B c.args.game.now.arena.mode c.requires.working.ready.formed c.args.into.now c.requires.into c.args.fresh found c.requires.within c.reach_all-count.ensures.found in
+    let covers : RowFound B c.args.game.now.arena.mode c.args.table.now c.args.w.b c.args.w.q found c.args.old =
+    found_row B c.args.game.now.arena.mode c.requires.working.ready.formed c.args.into.now c.requires.into c.args.table.now c.args.w.b c.args.w.q c.args.fresh c.args.old found
     c.reach_all-count.ensures.found c.requires.row_stirred in
-    record { working = c.requires.working; accepting = c.requires.accepting; into = c.requires.into; onto = c.requires.onto; letters_in_bounds = (omega (arith, c.requires.working.ready.formed.few_letters), within); row_found = covers }
+    record { working = c.requires.working; accepting = c.requires.accepting; into = c.requires.into; onto = c.requires.onto; found_within = (omega (arith, c.requires.working.ready.formed.few_letters), within); row_found = covers }

@@ -1,9 +1,6 @@
--- `duplicators::rows::at_most_8` meets its contract: no word has more than 64 members, so the count is small.
-use Prim.Native.Nat.{◌-◌, ◌≤◌}
+-- `duplicators::rows::at_most_8` meets its contract: the count is at most 8 at each turn, and no word has more than 64 members.
+use Rattle.std.proofs.Common.{◌≤◌}
 use Rattle.duplicators.proofs.rows.at_most_8.Given as goal
 
-abbrev pub invariant-loop-a : goal.invariant-loop-a
-invariant-loop-a l = (l.a ≤ l.k) × (l.count ≤ 72)
-
-abbrev pub decreases-loop-a : goal.decreases-loop-a
-decreases-loop-a l = l.k - l.a
+abbrev pub invariant-loop-word : goal.invariant-loop-word
+invariant-loop-word l = l.count ≤ 8

@@ -4,7 +4,7 @@ use mathlib.Core.List.{List}
 use Prim.Native.Nat.{ℕ, ◌<◌}
 use native.Mathlib.Omega.{arith}
 use Rattle.automaton.specs.Board.{Board}
-use Rattle.arena.specs.Arena.{board_in}
+use Rattle.arena.specs.Game.{board}
 use Rattle.games.specs.Game.{at}
 use Rattle.halves.specs.Half.{replied}
 use Rattle.duplicators.proofs.Asking.{seen_same, row-seats}
@@ -14,38 +14,38 @@ use Rattle.duplicators.proofs.rows.level_row.Goals as goal
 
 pub gather-low-requires : goal.gather-low-requires
 gather-low-requires c =
-    let board : Board = board_in c.args.g c.args.marks.now c.args.moves.now in
+    let B : Board = board c.args.game.now in
     let o = c.requires.working in
-    record { n_bound = (o.ready.formed.few, omega (arith, o.ready.formed.few)); seats = row-seats board c.args.g.mode o.ready.formed c.args.w o.rowed c.args.table.now o.ready.entries }
+    record { row_has_room = (o.ready.formed.few, omega (arith, o.ready.formed.few)); seats = row-seats B c.args.game.now.arena.mode o.ready.formed c.args.w o.rowed c.args.table.now o.ready.entries }
 
 pub returns-then-any-eq0 : goal.returns-then-any-eq0
 returns-then-any-eq0 c =
-    let board : Board = board_in c.args.g c.args.marks.now c.args.moves.now in
+    let B : Board = board c.args.game.now in
     let row : List ℕ = c.gather-low.new.row in
-    let same : (x : ℕ) → x < c.args.g.states → at row x ≡ at c.args.table.now (replied board c.args.g.mode c.args.w.b c.args.w.q x) = λ x h. c.gather-low.ensures.gathered x h ∙ seen_same board c.args.g.mode c.requires.working.ready.formed c.args.w c.requires.working.rowed c.args.acc c.requires.accepting c.args.table.now x h in
+    let same : (x : ℕ) → x < c.args.game.now.arena.states → at row x ≡ at c.args.table.now (replied B c.args.game.now.arena.mode c.args.w.b c.args.w.q x) = λ x h. c.gather-low.ensures.gathered x h ∙ seen_same B c.args.game.now.arena.mode c.requires.working.ready.formed c.args.w c.requires.working.rowed c.args.acc c.requires.accepting c.args.table.now x h in
     let left : List ℕ = c.spare_all-any.new.found in
     let o = c.requires.working in
-    record { answered_in = part_none _ _ _; row_still = spared_none board c.args.g.mode o.ready.formed c.args.into.now c.requires.into c.args.table.now c.args.w.b c.args.w.q c.args.old c.gather-low.result row c.args.found.now left o.rowed.bit o.rowed.red same c.gather-low.ensures.at_most c.spare_all-any.ensures.all_spared _ c.spare_all-any.ensures.all_in c.if-any-eq0.true c.requires.row_found }
+    record { answered_in = part_none _ _ _; row_still = spared_none B c.args.game.now.arena.mode o.ready.formed c.args.into.now c.requires.into c.args.table.now c.args.w.b c.args.w.q c.args.old c.gather-low.result row c.args.found.now left o.rowed.bit o.rowed.red same c.gather-low.ensures.at_most c.spare_all-any.ensures.all_spared _ c.spare_all-any.ensures.all_in c.if-any-eq0.true c.requires.row_found }
 
 pub raise_rest-requires : goal.raise_rest-requires
 raise_rest-requires c =
-    let board : Board = board_in c.args.g c.args.marks.now c.args.moves.now in
+    let B : Board = board c.args.game.now in
     let row : List ℕ = c.gather-low.new.row in
-    let same : (x : ℕ) → x < c.args.g.states → at row x ≡ at c.args.table.now (replied board c.args.g.mode c.args.w.b c.args.w.q x) = λ x h. c.gather-low.ensures.gathered x h ∙ seen_same board c.args.g.mode c.requires.working.ready.formed c.args.w c.requires.working.rowed c.args.acc c.requires.accepting c.args.table.now x h in
+    let same : (x : ℕ) → x < c.args.game.now.arena.states → at row x ≡ at c.args.table.now (replied B c.args.game.now.arena.mode c.args.w.b c.args.w.q x) = λ x h. c.gather-low.ensures.gathered x h ∙ seen_same B c.args.game.now.arena.mode c.requires.working.ready.formed c.args.w c.requires.working.rowed c.args.acc c.requires.accepting c.args.table.now x h in
     let left : List ℕ = c.spare_all-any.new.found in
     let o = c.requires.working in
-    let within = spared_within board c.args.g.mode o.ready.formed c.args.into.now c.requires.into c.args.table.now c.args.w.b c.args.w.q c.args.old c.gather-low.result row c.args.found.now left o.rowed.bit o.rowed.red same c.gather-low.ensures.at_most c.spare_all-any.ensures.all_spared c.requires.letters_in_bounds.1 in
-    record { working = o; accepting = c.requires.accepting; onto = c.requires.onto; letters_in_bounds = (omega (arith, c.requires.letters_in_bounds.0, c.spare_all-any.auto.found), within); states_in_bounds = omega (arith, o.ready.formed.few); levels_tell = λ every rest count values members all minus levels. spared_told board c.args.g.mode o.ready.formed c.args.into.now c.requires.into c.args.table.now c.args.w.b c.args.w.q c.args.old c.gather-low.result row c.args.found.now left o.rowed.bit o.rowed.red same c.gather-low.ensures.at_most c.spare_all-any.ensures.all_spared c.args.onto.now c.requires.onto _ every rest o.ready.topped all minus values members count levels within }
+    let within = spared_within B c.args.game.now.arena.mode o.ready.formed c.args.into.now c.requires.into c.args.table.now c.args.w.b c.args.w.q c.args.old c.gather-low.result row c.args.found.now left o.rowed.bit o.rowed.red same c.gather-low.ensures.at_most c.spare_all-any.ensures.all_spared c.requires.found_within.1 in
+    record { working = o; accepting = c.requires.accepting; onto = c.requires.onto; found_within = (omega (arith, c.requires.found_within.0, c.spare_all-any.auto.found), within); row_whole = omega (arith, o.ready.formed.few); levels_tell = λ every rest levels all minus peeled. spared_told B c.args.game.now.arena.mode o.ready.formed c.args.into.now c.requires.into c.args.table.now c.args.w.b c.args.w.q c.args.old c.gather-low.result row c.args.found.now left o.rowed.bit o.rowed.red same c.gather-low.ensures.at_most c.spare_all-any.ensures.all_spared c.args.onto.now c.requires.onto _ every rest o.ready.topped all minus levels peeled within }
 
 pub returns : goal.returns
 returns c =
-    let board : Board = board_in c.args.g c.args.marks.now c.args.moves.now in
+    let B : Board = board c.args.game.now in
     let row : List ℕ = c.gather-low.new.row in
-    let same : (x : ℕ) → x < c.args.g.states → at row x ≡ at c.args.table.now (replied board c.args.g.mode c.args.w.b c.args.w.q x) = λ x h. c.gather-low.ensures.gathered x h ∙ seen_same board c.args.g.mode c.requires.working.ready.formed c.args.w c.requires.working.rowed c.args.acc c.requires.accepting c.args.table.now x h in
+    let same : (x : ℕ) → x < c.args.game.now.arena.states → at row x ≡ at c.args.table.now (replied B c.args.game.now.arena.mode c.args.w.b c.args.w.q x) = λ x h. c.gather-low.ensures.gathered x h ∙ seen_same B c.args.game.now.arena.mode c.requires.working.ready.formed c.args.w c.requires.working.rowed c.args.acc c.requires.accepting c.args.table.now x h in
     let left : List ℕ = c.spare_all-any.new.found in
     let o = c.requires.working in
     record {
       answered_in = c.raise_rest.ensures.answered_in;
       row_still = row_done o.ready.formed c.args.w.b c.args.w.q left o.rowed.bit o.rowed.red c.raise_rest.ensures.answered_in
-          (spared_row board c.args.g.mode o.ready.formed c.args.into.now c.requires.into c.args.table.now c.args.w.b c.args.w.q c.args.old c.gather-low.result row c.args.found.now left o.rowed.bit o.rowed.red same c.gather-low.ensures.at_most c.spare_all-any.ensures.all_spared c.requires.row_found) c.raise_rest.ensures.found_still;
+          (spared_row B c.args.game.now.arena.mode o.ready.formed c.args.into.now c.requires.into c.args.table.now c.args.w.b c.args.w.q c.args.old c.gather-low.result row c.args.found.now left o.rowed.bit o.rowed.red same c.gather-low.ensures.at_most c.spare_all-any.ensures.all_spared c.requires.row_found) c.raise_rest.ensures.found_still;
     }

@@ -1,13 +1,16 @@
 -- `duplicators::scans::low_scan` meets its contract: `low` is the least over the members that are not left.
-use mathlib.Core.Logic.{inl}
-use Rattle.words.specs.Word.{Pop}
-use Rattle.levels.proofs.Seeking.{seek_more, seek_end}
+use Rattle.std.proofs.Common.{inl}
+use Rattle.levels.proofs.Seeking.{seek_start, seek_more, seek_end, seek_past}
 use Rattle.duplicators.proofs.scans.low_scan.Goals as goal
 
-pub loop-left-preserved : goal.loop-left-preserved
-loop-left-preserved c =
-    let popped : Pop c.loop-left.left c.lowest-x.result c.rest-left.result = rw c.lowest-x.ensures c.rest-left.ensures in
-    seek_more _ _ _ popped c.loop-left.invariant c.seen.ensures c.lesser-low.ensures
+pub loop-x-init : goal.loop-x-init
+loop-x-init c = rw (c.into_iter-x-iterator.ensures.into_iter_gives, c.members-x-items.ensures) (seek_start _ _ _)
 
-pub returns-after-loop-left : goal.returns-after-loop-left
-returns-after-loop-left c = inl (seek_end _ _ _ c.loop-left-test.false c.loop-left.invariant)
+pub loop-x-preserved : goal.loop-x-preserved
+loop-x-preserved c = seek_more _ _ _ c.in-Some.ensures.steps.1 c.loop-x.invariant c.seen.ensures c.min-low.ensures
+
+pub returns-in-None : goal.returns-in-None
+returns-in-None c = inl (seek_end _ _ _ c.in-None.ensures.steps.0 c.loop-x.invariant)
+
+pub returns-then-low-old : goal.returns-then-low-old
+returns-then-low-old c = seek_past _ _ _ c.if-low-old.true c.loop-x.invariant

@@ -3,8 +3,5 @@ use Rattle.levels.proofs.Seeking.{Seeking}
 use Rattle.duplicators.specs.Rows.{seen_in}
 use Rattle.duplicators.proofs.scans.low_scan.Given as goal
 
-abbrev pub invariant-loop-left : goal.invariant-loop-left
-invariant-loop-left l = Seeking (seen_in l.acc l.table l.w) l.steps l.top l.left l.low
-
-abbrev pub decreases-loop-left : goal.decreases-loop-left
-decreases-loop-left l = l.left
+abbrev pub invariant-loop-x : goal.invariant-loop-x
+invariant-loop-x l = Seeking (seen_in l.acc l.table l.w) l.steps l.top l.x-iterator.left l.low

@@ -1,5 +1,5 @@
 -- `line::word_of` meets its contract: the words are tried one after another, and all before the one found are told to be others.
-use mathlib.Core.Path.{◌∙◌}
+use Rattle.std.proofs.Common.{◌∙◌}
 use Rattle.lines.specs.Lines.{word_of}
 use Rattle.fields.proofs.Same.{same-told}
 use Rattle.lines.proofs.line.word_of.Goals as goal
@@ -12,7 +12,7 @@ pub returns-then-same-2 : goal.returns-then-same-2
 unfolding word_of
 returns-then-same-2 c =
     simp (
-      same-told _ _ _ c.same-2.ensures ∙ c.if-same-2.true,
+      same-told _ _ _ c.same-else-same.ensures ∙ c.if-same-2.true,
       same-told _ _ _ c.same.ensures ∙ c.if-same.false,
     )
 
@@ -20,8 +20,8 @@ pub returns-then-same-3 : goal.returns-then-same-3
 unfolding word_of
 returns-then-same-3 c =
     simp (
-      same-told _ _ _ c.same-3.ensures ∙ c.if-same-3.true,
-      same-told _ _ _ c.same-2.ensures ∙ c.if-same-2.false,
+      same-told _ _ _ c.same-else-same-2.ensures ∙ c.if-same-3.true,
+      same-told _ _ _ c.same-else-same.ensures ∙ c.if-same-2.false,
       same-told _ _ _ c.same.ensures ∙ c.if-same.false,
     )
 
@@ -29,18 +29,18 @@ pub returns-then-same-4 : goal.returns-then-same-4
 unfolding word_of
 returns-then-same-4 c =
     simp (
-      same-told _ _ _ c.same-4.ensures ∙ c.if-same-4.true,
-      same-told _ _ _ c.same-3.ensures ∙ c.if-same-3.false,
-      same-told _ _ _ c.same-2.ensures ∙ c.if-same-2.false,
+      same-told _ _ _ c.same-else-same-3.ensures ∙ c.if-same-4.true,
+      same-told _ _ _ c.same-else-same-2.ensures ∙ c.if-same-3.false,
+      same-told _ _ _ c.same-else-same.ensures ∙ c.if-same-2.false,
       same-told _ _ _ c.same.ensures ∙ c.if-same.false,
     )
 
-pub returns : goal.returns
+pub returns-else-same-4 : goal.returns-else-same-4
 unfolding word_of
-returns c =
+returns-else-same-4 c =
     simp (
-      same-told _ _ _ c.same-4.ensures ∙ c.if-same-4.false,
-      same-told _ _ _ c.same-3.ensures ∙ c.if-same-3.false,
-      same-told _ _ _ c.same-2.ensures ∙ c.if-same-2.false,
+      same-told _ _ _ c.same-else-same-3.ensures ∙ c.if-same-4.false,
+      same-told _ _ _ c.same-else-same-2.ensures ∙ c.if-same-3.false,
+      same-told _ _ _ c.same-else-same.ensures ∙ c.if-same-2.false,
       same-told _ _ _ c.same.ensures ∙ c.if-same.false,
     )

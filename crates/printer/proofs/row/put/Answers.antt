@@ -1,10 +1,5 @@
 -- `row::put` meets its contract: the fields left and the newline, put from here on, end and lie where the whole line does.
-use mathlib.Core.Path.{◌≡◌, refl}
-use mathlib.Core.List.{List, [], ◌∷◌, ◌++◌, append_assoc}
-use Prim.Native.Nat.{ℕ, ◌+◌, ◌≤◌, ◌<◌}
-use native.Mathlib.Numerals.{add-one}
-use lib.ListN.{length, get_or, drop, drop_of_length-le}
-use lib.Seq.{drop-cons}
+use Rattle.std.proofs.Common.{◌≡◌, refl, List, [], ◌∷◌, ◌++◌, append_assoc, ℕ, ◌+◌, ◌≤◌, ◌<◌, add-one, length, get_or, drop, drop_of_length-le, drop-cons}
 use Rattle.fields.specs.Bytes.{newline, tab}
 use Rattle.fields.specs.Numbers.{shown}
 use Rattle.printer.specs.Printed.{line, tabbed}
@@ -22,16 +17,16 @@ rest-done : (values : List ℕ) (i : ℕ) → length values ≤ i → rest value
 unfolding tabbed
 rest-done values i h = simp (drop_of_length-le values {i = i} h)
 
-pub loop-i-init : goal.loop-i-init
-loop-i-init c = left-all c.put_bytes-to.result (rest c.args.values.now 0) c.put_bytes-to.new.out
+pub loop-value-init : goal.loop-value-init
+loop-value-init c = left-all c.put_bytes-to.result (rest c.args.values.now 0) c.put_bytes-to.new.out
 
-pub loop-i-preserved : goal.loop-i-preserved
-loop-i-preserved c =
+pub loop-value-preserved : goal.loop-value-preserved
+loop-value-preserved c =
     let values = c.args.values.now in
-    let after = rest values (c.loop-i.i + 1) in
-    let field = shown (get_or values c.loop-i.i 0) in
+    let after = rest values (c.loop-value.value-index + 1) in
+    let field = shown (get_or values c.loop-value.value-index 0) in
     let parted =
-    left-next c.loop-i.invariant (tab ∷ []) (field ++ after) (rest_more values c.loop-i.i c.loop-i-test.true) c.put-past.result c.put-past.new.out c.put-past.ensures.value c.put-past.ensures.out_after in
+    left-next c.loop-value.invariant (tab ∷ []) (field ++ after) (rest_more values c.loop-value.value-index c.loop-value-test.true) c.put-past.result c.put-past.new.out c.put-past.ensures.value c.put-past.ensures.out_after in
     left-next parted field after refl c.put_number-to.result c.put_number-to.new.out c.put_number-to.ensures.value c.put_number-to.ensures.out_after
 
 pub returns : goal.returns
@@ -40,6 +35,6 @@ returns c =
     let fields = rest a.values.now 0 in
     let begun =
     left-next (left-all a.at (line a.word.now a.values.now) a.out.now) a.word.now fields refl c.put_bytes-to.result c.put_bytes-to.new.out c.put_bytes-to.ensures.value c.put_bytes-to.ensures.out_after in
-    let done = rest-done a.values.now c.loop-i.i c.loop-i-test.false in
-    let both = left-none (left-next (left_then begun c.loop-i.invariant) (newline ∷ []) [] done c.put.result c.put.new.out c.put.ensures.value c.put.ensures.out_after) refl in
+    let done = rest-done a.values.now c.loop-value.value-index c.loop-value-test.false in
+    let both = left-none (left-next (left_then begun c.loop-value.invariant) (newline ∷ []) [] done c.put.result c.put.new.out c.put.ensures.value c.put.ensures.out_after) refl in
     record { value = both.0; out_after = both.1 }

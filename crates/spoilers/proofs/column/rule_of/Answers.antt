@@ -1,93 +1,64 @@
 -- `spoilers::column::rule_of` meets its contract: in each mode the tests tell the kinds of the column's positions.
-use mathlib.Core.Path.{◌≡◌, ap}
-use mathlib.Core.Bool.{true, false}
-use Prim.Native.Nat.{ℕ, ◌+◌}
-use native.Mathlib.Omega.{arith}
+use Rattle.std.proofs.Common.{◌≡◌, ap, inl, inr, true, false, ℕ, ◌+◌, arith}
 use Rattle.words.proofs.Sets.{in_or-out}
-use Rattle.automaton.specs.Board.{Board, accepts}
+use Rattle.automaton.specs.Board.{accepts}
 use Rattle.simulation.proofs.Limits.{layers-most, ceiling-most}
-use Rattle.arena.specs.Arena.{board_in}
-use Rattle.spoilers.specs.Shape.{Known}
+use Rattle.arena.specs.Game.{board}
 use Rattle.spoilers.proofs.Members.{has_in, has-not}
-use Rattle.spoilers.proofs.Asks.{accepting_in, accepting-out, asking-plain, asking_reset, asking-idle, asking-count, direct_kinds}
-use Rattle.std.proofs.Common.{inl, inr}
+use Rattle.spoilers.proofs.Asks.{accepting_in, accepting-out, asking-plain, asking_reset, asking-idle, asking-count, plain_kinds}
+use Rattle.spoilers.proofs.column.rule_of.Goals.{After-has-accepts}
 use Rattle.spoilers.proofs.column.rule_of.Goals as goal
 
-pub returns-then-b-eq0 : goal.returns-then-b-eq0
-returns-then-b-eq0 c =
-    let B : Board = board_in c.args.g c.args.marks.now c.args.moves.now in
-    let known : Known c.args.g c.args.marks.now c.args.moves.now c.args.acc = c.requires.known in
-    let a = c.args in
-    asking_reset B a.g.mode a.b a.r a.g.top known.topped (λ q. simp (c.in-Delayed.is, c.if-b-eq0.true))
+-- what the test tells of Blue's state
+blue : (c : After-has-accepts) → c.has-accepts.result ≡ true → accepts (board c.args.game.now) c.args.r ≡ true
+blue c h = accepting_in (board c.args.game.now) _ c.requires.known.accepting _ c.requires.column_in_game.1 (has_in _ _ c.has-accepts.ensures h)
 
-pub has-requires : goal.has-requires
-has-requires c =
-    let known : Known c.args.g c.args.marks.now c.args.moves.now c.args.acc = c.requires.known in
-    omega (arith, c.requires.b_bound.1, known.formed.few)
+not_blue : (c : After-has-accepts) → c.has-accepts.result ≡ false → accepts (board c.args.game.now) c.args.r ≡ false
+not_blue c h = accepting-out (board c.args.game.now) _ c.requires.known.accepting _ c.requires.column_in_game.1 (has-not _ _ c.has-accepts.ensures h)
+
+pub has-accepts-requires : goal.has-accepts-requires
+has-accepts-requires c = omega (arith, c.requires.column_in_game.1, c.requires.known.formed.few)
 
 pub overflow_add-result : goal.overflow_add-result
-overflow_add-result c =
-    let B : Board = board_in c.args.g c.args.marks.now c.args.moves.now in
-    let known : Known c.args.g c.args.marks.now c.args.moves.now c.args.acc = c.requires.known in
-    omega (arith, known.topped, ceiling-most B known.formed c.args.g.mode)
-
-pub returns-then-has : goal.returns-then-has
-returns-then-has c =
-    let B : Board = board_in c.args.g c.args.marks.now c.args.moves.now in
-    let known : Known c.args.g c.args.marks.now c.args.moves.now c.args.acc = c.requires.known in
-    let one : c.args.b ≡ 1 = omega (arith, layers-most c.args.g.mode, c.requires.b_bound.0, c.if-b-eq0.false) in
-    let a = c.args in
-    let blue : accepts B a.r ≡ true = accepting_in B _ known.accepting _ c.requires.b_bound.1 (has_in _ _ c.has.ensures c.if-has.true) in
-    asking-idle B a.g.mode a.b a.r _ (ap (λ (t : ℕ). t + 1) known.topped) (λ q. simp (c.in-Delayed.is, one, blue))
+overflow_add-result c = omega (arith, c.requires.known.topped, ceiling-most (board c.args.game.now) c.requires.known.formed c.args.game.now.arena.mode)
 
 pub below-requires : goal.below-requires
-below-requires c =
-    let known : Known c.args.g c.args.marks.now c.args.moves.now c.args.acc = c.requires.known in
-    known.formed.few
-
-pub has-requires-in-Fair : goal.has-requires-in-Fair
-has-requires-in-Fair c =
-    let known : Known c.args.g c.args.marks.now c.args.moves.now c.args.acc = c.requires.known in
-    omega (arith, c.requires.b_bound.1, known.formed.few)
-
-pub returns-then-has-2 : goal.returns-then-has-2
-returns-then-has-2 c =
-    let B : Board = board_in c.args.g c.args.marks.now c.args.moves.now in
-    let known : Known c.args.g c.args.marks.now c.args.moves.now c.args.acc = c.requires.known in
-    let a = c.args in
-    let blue : accepts B a.r ≡ true = accepting_in B _ known.accepting _ c.requires.b_bound.1 (has_in _ _ c.has-in-Fair.ensures c.if-has-2.true) in
-    asking_reset B a.g.mode a.b a.r a.g.top known.topped (λ q. simp (c.in-Fair.is, blue))
+below-requires c = c.requires.known.formed.few
 
 pub returns-in-Ordinary : goal.returns-in-Ordinary
-returns-in-Ordinary c =
-    let B : Board = board_in c.args.g c.args.marks.now c.args.moves.now in
-    let a = c.args in
-    asking-plain B a.g.mode a.b a.r (λ q. inl (simp c.in-Ordinary.is))
+returns-in-Ordinary c = let a = c.args in asking-plain (board a.game.now) a.game.now.arena.mode a.b a.r (λ q. plain_kinds a.game.now.arena.mode c.in-Ordinary.is a.b _ _)
 
-pub returns-in-Direct : goal.returns-in-Direct
-returns-in-Direct c =
-    let B : Board = board_in c.args.g c.args.marks.now c.args.moves.now in
-    let a = c.args in
-    asking-plain B a.g.mode a.b a.r (λ q. direct_kinds a.g.mode c.in-Direct.is a.b _ _)
+pub returns-in-Delayed : goal.returns-in-Delayed
+returns-in-Delayed c = let a = c.args in asking_reset (board a.game.now) a.game.now.arena.mode a.b a.r a.game.now.arena.top c.requires.known.topped (λ q. simp (c.in-Delayed.is, c.if-b-eq0.true))
 
-pub returns-else-has : goal.returns-else-has
-returns-else-has c =
-    let B : Board = board_in c.args.g c.args.marks.now c.args.moves.now in
-    let known : Known c.args.g c.args.marks.now c.args.moves.now c.args.acc = c.requires.known in
-    let one : c.args.b ≡ 1 = omega (arith, layers-most c.args.g.mode, c.requires.b_bound.0, c.if-b-eq0.false) in
+pub returns-in-Delayed-2 : goal.returns-in-Delayed-2
+returns-in-Delayed-2 c =
     let a = c.args in
-    let blue : accepts B a.r ≡ false = accepting-out B _ known.accepting _ c.requires.b_bound.1 (has-not _ _ c.has.ensures c.if-has.false) in
-    asking-count B a.g.mode a.b a.r _ (λ q h. inl (simp (c.in-Delayed.is, one, blue), c.below.ensures.each q h))
+    let one : a.b ≡ 1 = omega (arith, layers-most a.game.now.arena.mode, c.requires.column_in_game.0, c.if-b-eq0.false) in
+    let accepts-r = blue (goal.at.returns-in-Delayed-2 c).After-has-accepts c.if-accepts.true in
+    asking-idle (board a.game.now) a.game.now.arena.mode a.b a.r _ (ap (λ (t : ℕ). t + 1) c.requires.known.topped) (λ q. simp (c.in-Delayed.is, one, accepts-r))
 
-pub returns-else-has-2 : goal.returns-else-has-2
-returns-else-has-2 c =
-    let B : Board = board_in c.args.g c.args.marks.now c.args.moves.now in
-    let known : Known c.args.g c.args.marks.now c.args.moves.now c.args.acc = c.requires.known in
+pub returns-in-Delayed-3 : goal.returns-in-Delayed-3
+returns-in-Delayed-3 c =
     let a = c.args in
-    let blue : accepts B a.r ≡ false = accepting-out B _ known.accepting _ c.requires.b_bound.1 (has-not _ _ c.has-in-Fair.ensures c.if-has-2.false) in
-    let sure = known.accepting in
-    asking-count B a.g.mode a.b a.r a.acc (λ q h.
+    let one : a.b ≡ 1 = omega (arith, layers-most a.game.now.arena.mode, c.requires.column_in_game.0, c.if-b-eq0.false) in
+    let accepts-r = not_blue (goal.at.returns-in-Delayed-3 c).After-has-accepts c.if-accepts.false in
+    asking-count (board a.game.now) a.game.now.arena.mode a.b a.r _ (λ q h. inl (simp (c.in-Delayed.is, one, accepts-r), c.below.ensures.each q h))
+
+pub returns-in-Fair : goal.returns-in-Fair
+returns-in-Fair c =
+    let a = c.args in
+    let accepts-r = blue (goal.at.returns-in-Fair c).After-has-accepts c.if-accepts-2.true in
+    asking_reset (board a.game.now) a.game.now.arena.mode a.b a.r a.game.now.arena.top c.requires.known.topped (λ q. simp (c.in-Fair.is, accepts-r))
+
+pub returns-in-Fair-2 : goal.returns-in-Fair-2
+returns-in-Fair-2 c =
+    let a = c.args in
+    let B = board a.game.now in
+    let sure = c.requires.known.accepting in
+    let accepts-r = not_blue (goal.at.returns-in-Fair-2 c).After-has-accepts c.if-accepts-2.false in
+    asking-count B a.game.now.arena.mode a.b a.r a.acc (λ q h.
     elim (in_or-out a.acc q) [
-      | inl i ↦ inl (simp (c.in-Fair.is, blue, accepting_in B a.acc sure q h i), i)
-      | inr o ↦ inr (simp (c.in-Fair.is, blue, accepting-out B a.acc sure q h o), o)
+      | inl i ↦ inl (simp (c.in-Fair.is, accepts-r, accepting_in B a.acc sure q h i), i)
+      | inr o ↦ inr (simp (c.in-Fair.is, accepts-r, accepting-out B a.acc sure q h o), o)
     ])

@@ -1,60 +1,47 @@
--- `spoilers::layer::layer` meets its contract. The invariant: all that is marked for the columns that are not left is heeded. The measure is what is left, as a number.
-use native.Mathlib.Omega.{arith}
-use Rattle.words.specs.Word.{Pop}
-use Rattle.automaton.specs.Board.{Board, accepts}
+-- `spoilers::layer::layer` meets its contract. The invariant: all that is marked for the columns that are not left is heeded.
+use Rattle.std.proofs.Common.{arith}
+use Rattle.words.specs.Word.{In}
+use Rattle.automaton.specs.Board.{accepts}
 use Rattle.simulation.proofs.Moves.{move-within}
-use Rattle.arena.specs.Arena.{board_in}
-use Rattle.halves.specs.Rising.{Rising, rising}
-use Rattle.spoilers.specs.Work.{Working}
-use Rattle.spoilers.specs.Front.{Columned}
+use Rattle.arena.specs.Game.{board}
 use Rattle.spoilers.proofs.Parts.{pushed_then, working_kept, raising-most}
 use Rattle.spoilers.proofs.Pushes.{columned_kept}
-use Rattle.spoilers.proofs.Through.{popped, through_start, through_more, through_end}
+use Rattle.spoilers.proofs.Through.{through_start, through_more, through_end}
 use Rattle.spoilers.proofs.layer.layer.Goals as goal
 
-pub stirred-m-requires : goal.stirred-m-requires
-stirred-m-requires c = (c.requires.working.raising.ready.formed.few, c.requires.mode_in_bounds.1, c.requires.mode_in_bounds.0)
+pub stirred-requires : goal.stirred-requires
+stirred-requires c = record { few = c.requires.known.formed.few; bit_in_game = c.requires.bit_in_game; sets = c.requires.sets }
 
-pub loop-m-init : goal.loop-m-init
-loop-m-init c = through_start _ _ _ _ _
+pub loop-r-init : goal.loop-r-init
+loop-r-init c = through_start _ _
 
 pub column-raised-requires : goal.column-raised-requires
 column-raised-requires c =
-    let s : Rising = rising c.loop-m.table c.loop-m.risen c.loop-m.rows c.loop-m.olds in
-    let works : Working c.args.g c.args.marks.now c.args.moves.now s = working_kept c.requires.working c.loop-m.invariant.pushed c.loop-m.invariant.sized in
-    let pop : Pop c.loop-m.m c.lowest-r.result c.rest-m.result = popped c.lowest-r.ensures c.rest-m.ensures in
-    record { working = works; reading = c.requires.reading; b_bound = (c.requires.mode_in_bounds.1, c.stirred-m.ensures.states c.lowest-r.result (c.loop-m.invariant.sub c.lowest-r.result pop.here)) }
+    let done = c.loop-r.invariant in
+    let r = c.in-Some.r in
+    let known : In r c.stirred.result = rw (c.into_iter-r-iterator.ensures.into_iter_gives, c.members-r-items.ensures) at (done.sub r c.in-Some.ensures.steps.1.here) in
+    record {
+      working = working_kept c.requires.working done.pushed done.sized;
+      known = c.requires.known;
+      reading = c.requires.reading;
+      column_in_game = (c.requires.bit_in_game, c.stirred.ensures.states r known);
+    }
 
 pub overflow_add-raised : goal.overflow_add-raised
-overflow_add-raised c =
-    let B : Board = board_in c.args.g c.args.marks.now c.args.moves.now in
-    omega (arith, raising-most c.requires.working.raising (pushed_then B c.args.g.mode c.loop-m.invariant.pushed c.column-raised.ensures.pushed))
+overflow_add-raised c = omega (arith, raising-most c.requires.working.raising (pushed_then (board c.args.game.now) c.args.game.now.arena.mode c.loop-r.invariant.pushed c.column-raised.ensures.pushed))
 
-pub loop-m-smaller : goal.loop-m-smaller
-loop-m-smaller c =
-    let pop : Pop c.loop-m.m c.lowest-r.result c.rest-m.result = popped c.lowest-r.ensures c.rest-m.ensures in
-    pop.less
-
-pub loop-m-preserved : goal.loop-m-preserved
-loop-m-preserved c =
-    let B : Board = board_in c.args.g c.args.marks.now c.args.moves.now in
-    let first : Rising = rising c.args.table.now c.args.risen.now c.args.rows.now c.args.olds.now in
-    let s : Rising = rising c.loop-m.table c.loop-m.risen c.loop-m.rows c.loop-m.olds in
-    let pop : Pop c.loop-m.m c.lowest-r.result c.rest-m.result = popped c.lowest-r.ensures c.rest-m.ensures in
-    let a = c.args in
-    through_more B a.g.mode _ (Columned B a.g.mode a.grown.now a.b) first s _ _ _ _ _ _ c.loop-m.invariant pop c.column-raised.ensures.pushed
-    (record { risen = c.column-raised.auto.risen; rows = c.column-raised.auto.rows; olds = c.column-raised.auto.olds }) c.column-raised.ensures.columned (λ y h. columned_kept B a.g.mode c.column-raised.ensures.pushed a.grown.now a.b y h)
+pub loop-r-preserved : goal.loop-r-preserved
+loop-r-preserved c =
+    through_more c.loop-r.invariant c.in-Some.ensures.steps.1 c.column-raised.ensures.pushed (record { risen = c.column-raised.auto.risen; rows = c.column-raised.auto.rows; olds = c.column-raised.auto.olds })
+    c.column-raised.ensures.columned (columned_kept _ _ c.column-raised.ensures.pushed c.args.grown.now c.args.b)
 
 pub returns : goal.returns
 returns c =
-    let B : Board = board_in c.args.g c.args.marks.now c.args.moves.now in
-    let first : Rising = rising c.args.table.now c.args.risen.now c.args.rows.now c.args.olds.now in
-    let s : Rising = rising c.loop-m.table c.loop-m.risen c.loop-m.rows c.loop-m.olds in
-    let a = c.args in
-    let done = through_end B a.g.mode _ (Columned B a.g.mode a.grown.now a.b) first s _ _ c.loop-m.invariant c.loop-m-test.false in
     record {
-      pushed = c.loop-m.invariant.pushed;
+      pushed = c.loop-r.invariant.pushed;
       layered = λ r i x q hr marked move.
-          let (hq, hi, hx) = move-within B c.requires.working.raising.ready.formed q i x move in
-          done r (c.stirred-m.ensures.all r hr (accepts B x) marked.1) i hi x hx marked.0 q move;
+          let (hq, hi, hx) = move-within (board c.args.game.now) c.requires.known.formed q i x move in
+          let known : In r c.stirred.result = c.stirred.ensures.all r hr (accepts (board c.args.game.now) x) marked.1 in
+          let member : In r c.into_iter-r-iterator.result.left = rw (c.into_iter-r-iterator.ensures.into_iter_gives, c.members-r-items.ensures) known in
+          through_end c.loop-r.invariant c.in-None.ensures.steps.0 r member i hi x hx marked.0 q move;
     }

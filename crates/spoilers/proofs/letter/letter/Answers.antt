@@ -1,58 +1,46 @@
 -- `spoilers::letter::letter` meets its contract. The invariant: the sources that are not left are heeded, and those done have had the greatest entry.
--- The measure is what is left, as a number.
-use native.Mathlib.Omega.{arith}
-use Rattle.words.specs.Word.{Pop}
-use Rattle.automaton.specs.Board.{Board}
-use Rattle.arena.specs.Arena.{board_in}
-use Rattle.halves.specs.Rising.{Rising, rising}
-use Rattle.spoilers.specs.Work.{Working}
-use Rattle.spoilers.specs.Front.{Heard}
+use Rattle.std.proofs.Common.{arith}
+use Rattle.arena.specs.Game.{board}
+use Rattle.words.specs.Word.{In}
 use Rattle.spoilers.proofs.Parts.{pushed_then, working_kept, raising-most}
 use Rattle.spoilers.proofs.Pushes.{heard_kept}
-use Rattle.spoilers.proofs.Through.{popped, through_start, through_more, through_end}
+use Rattle.spoilers.proofs.Through.{through_start, through_more, through_end}
 use Rattle.spoilers.proofs.letter.letter.Goals as goal
 
-pub sources-m-requires : goal.sources-m-requires
-sources-m-requires c =
-    record { known = c.requires.reading.known; shaped = c.requires.shaped; letters_in_bounds = c.requires.reading.words; a_lt_letters = c.requires.a_lt_letters }
+pub sources-requires : goal.sources-requires
+sources-requires c = record { shaped = c.requires.shaped; words = c.requires.reading.words; letter_in_game = c.requires.letter_in_game }
 
-pub loop-m-init : goal.loop-m-init
-loop-m-init c = (through_start _ _ _ _ _, c.requires.guarded)
+pub loop-x-init : goal.loop-x-init
+loop-x-init c = (through_start _ _, c.requires.guarded)
 
-pub push_one-f-requires : goal.push_one-f-requires
-push_one-f-requires c =
-    let s : Rising = rising c.loop-m.table c.loop-m.risen c.loop-m.rows c.loop-m.olds in
-    let works : Working c.args.g c.args.marks.now c.args.moves.now s = working_kept c.requires.working c.loop-m.invariant.0.pushed c.loop-m.invariant.0.sized in
-    let pop : Pop c.loop-m.m c.lowest-x.result c.rest-m.result = popped c.lowest-x.ensures c.rest-m.ensures in
-    record { working = works; known = c.requires.reading.known; into = c.requires.reading.drawn; shaped = c.requires.shaped; a_lt_letters = (c.requires.a_lt_letters, c.sources-m.ensures.states c.lowest-x.result (c.loop-m.invariant.0.sub c.lowest-x.result pop.here)); guarded = c.loop-m.invariant.1 }
+pub push_one-raised-requires : goal.push_one-raised-requires
+push_one-raised-requires c =
+    let (done, guarded) = c.loop-x.invariant in
+    let x = c.in-Some.x in
+    let known : In x c.sources.result = rw (c.into_iter-x-iterator.ensures.into_iter_gives, c.members-x-items.ensures) at (done.sub x c.in-Some.ensures.steps.1.here) in
+    record {
+      working = working_kept c.requires.working done.pushed done.sized;
+      into = c.requires.reading.drawn;
+      shaped = c.requires.shaped;
+      move_in_game = (c.requires.letter_in_game, c.sources.ensures.states x known);
+      guarded = guarded;
+    }
 
 pub overflow_add-raised : goal.overflow_add-raised
-overflow_add-raised c =
-    let B : Board = board_in c.args.g c.args.marks.now c.args.moves.now in
-    omega (arith, raising-most c.requires.working.raising (pushed_then B c.args.g.mode c.loop-m.invariant.0.pushed c.push_one-f.ensures.pushed))
+overflow_add-raised c = omega (arith, raising-most c.requires.working.raising (pushed_then (board c.args.game.now) c.args.game.now.arena.mode c.loop-x.invariant.0.pushed c.push_one-raised.ensures.pushed))
 
-pub loop-m-smaller : goal.loop-m-smaller
-loop-m-smaller c =
-    let pop : Pop c.loop-m.m c.lowest-x.result c.rest-m.result = popped c.lowest-x.ensures c.rest-m.ensures in
-    pop.less
-
-pub loop-m-preserved : goal.loop-m-preserved
-loop-m-preserved c =
-    let B : Board = board_in c.args.g c.args.marks.now c.args.moves.now in
-    let first : Rising = rising c.args.table.now c.args.risen.now c.args.rows.now c.args.olds.now in
-    let s : Rising = rising c.loop-m.table c.loop-m.risen c.loop-m.rows c.loop-m.olds in
-    let pop : Pop c.loop-m.m c.lowest-x.result c.rest-m.result = popped c.lowest-x.ensures c.rest-m.ensures in
-    let a = c.args in (
-      through_more B a.g.mode _ (Heard B a.g.mode a.c.bit a.c.blue a.a) first s _ _ _ _ _ _ c.loop-m.invariant.0 pop c.push_one-f.ensures.pushed
-          (record { risen = c.push_one-f.auto.risen; rows = c.push_one-f.auto.rows; olds = c.push_one-f.auto.olds }) c.push_one-f.ensures.heard (λ y h. heard_kept B a.g.mode c.push_one-f.ensures.pushed a.c.bit a.c.blue a.a y h),
-      c.push_one-f.ensures.guarded_2,
-    )
+pub loop-x-preserved : goal.loop-x-preserved
+loop-x-preserved c = (
+  through_more c.loop-x.invariant.0 c.in-Some.ensures.steps.1 c.push_one-raised.ensures.pushed (record { risen = c.push_one-raised.auto.risen; rows = c.push_one-raised.auto.rows; olds = c.push_one-raised.auto.olds })
+      c.push_one-raised.ensures.heard (heard_kept _ _ c.push_one-raised.ensures.pushed c.args.c.bit c.args.c.blue c.args.a),
+  c.push_one-raised.ensures.still_guarded,
+)
 
 pub returns : goal.returns
 returns c =
-    let B : Board = board_in c.args.g c.args.marks.now c.args.moves.now in
-    let first : Rising = rising c.args.table.now c.args.risen.now c.args.rows.now c.args.olds.now in
-    let s : Rising = rising c.loop-m.table c.loop-m.risen c.loop-m.rows c.loop-m.olds in
-    let a = c.args in
-    let done = through_end B a.g.mode _ (Heard B a.g.mode a.c.bit a.c.blue a.a) first s _ _ c.loop-m.invariant.0 c.loop-m-test.false in
-    record { pushed = c.loop-m.invariant.0.pushed; guarded_2 = c.loop-m.invariant.1; lettered = λ x h i. done x (c.sources-m.ensures.all x h i) }
+    let (done, guarded) = c.loop-x.invariant in
+    record {
+      pushed = done.pushed;
+      still_guarded = guarded;
+      lettered = λ x h i. through_end done c.in-None.ensures.steps.0 x (rw (c.into_iter-x-iterator.ensures.into_iter_gives, c.members-x-items.ensures) (c.sources.ensures.all x h i));
+    }

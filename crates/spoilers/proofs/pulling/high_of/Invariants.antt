@@ -1,11 +1,8 @@
--- `spoilers::pulling::high_of` meets its contract. The invariant: h is High by the letters below a. The measure is the number of letters left.
-use Prim.Native.Nat.{◌-◌, ◌≤◌}
-use Rattle.arena.specs.Arena.{board_in}
+-- `spoilers::pulling::high_of` meets its contract. The invariant: h is High by the letters below a.
+use Rattle.arena.specs.Game.{board}
 use Rattle.spoilers.specs.Pull.{HighTo}
 use Rattle.spoilers.proofs.pulling.high_of.Given as goal
 
 abbrev pub invariant-loop-a : goal.invariant-loop-a
-invariant-loop-a l = (l.a ≤ l.g.letters) × HighTo (board_in l.g l.marks l.moves) l.g.mode l.table l.c.bit l.q l.c.blue l.a l.h
-
-abbrev pub decreases-loop-a : goal.decreases-loop-a
-decreases-loop-a l = l.g.letters - l.a
+invariant-loop-a l =
+    HighTo (board l.game) l.game.arena.mode l.table l.c.bit l.q l.c.blue l.a l.h

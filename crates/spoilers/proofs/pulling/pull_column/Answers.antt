@@ -1,61 +1,33 @@
--- `spoilers::pulling::pull_column` meets its contract. The invariant: the positions of the states below q heed all of their moves. The measure is the number of states left.
-use native.Mathlib.Omega.{arith}
-use Rattle.automaton.specs.Board.{Board}
-use Rattle.arena.specs.Arena.{board_in}
-use Rattle.halves.specs.Rising.{Rising, rising}
-use Rattle.spoilers.specs.Work.{Working}
-use Rattle.spoilers.specs.Pull.{Heeds}
+-- `spoilers::pulling::pull_column` meets its contract. The invariant: the positions of the states below q heed all of their moves.
+use Rattle.std.proofs.Common.{arith}
+use Rattle.arena.specs.Game.{board}
 use Rattle.spoilers.proofs.Parts.{pushed_none, pushed_then, working_kept, raising-most}
 use Rattle.spoilers.proofs.Pushes.{column_still}
 use Rattle.spoilers.proofs.Pulls.{heeds_kept, heeds_column}
 use Rattle.spoilers.proofs.Through.{upto_start, upto_more}
 use Rattle.spoilers.proofs.pulling.pull_column.Goals as goal
 
-pub column_at-c-requires : goal.column_at-c-requires
-column_at-c-requires c = record { known = c.requires.known; b_bound = c.requires.b_bound }
+pub of-c-requires : goal.of-c-requires
+of-c-requires c = record { known = c.requires.known; column_in_game = c.requires.column_in_game }
 
-pub returns-then-c-g : goal.returns-then-c-g
-returns-then-c-g c =
-    let B : Board = board_in c.args.g c.args.marks.now c.args.moves.now in
-    let B = board_in c.args.g c.args.marks.now c.args.moves.now in
-    record {
-      pushed = pushed_none B c.args.g.mode _;
-      column_heeds = λ q hq a x.
-          column_still B c.args.g.mode c.args.table.now c.requires.working.raising.ready.formed c.requires.working.capped c.requires.working.floor c.column_at-c.ensures
-          (omega (arith, c.requires.working.raising.ready.topped, c.if-c-g.true)) a x q;
-    }
+pub returns-then-c-game : goal.returns-then-c-game
+returns-then-c-game c = record { pushed = pushed_none (board c.args.game.now) c.args.game.now.arena.mode _; column_heeds = λ q hq a x. column_still c.requires.working c.of-c.ensures c.if-c-game.true a x q }
 
 pub loop-q-init : goal.loop-q-init
-loop-q-init c = upto_start _ _ _ _ _ (omega arith)
+loop-q-init c = upto_start _
 
-pub pull_one-raised-requires : goal.pull_one-raised-requires
-pull_one-raised-requires c =
-    let s : Rising = rising c.loop-q.table c.loop-q.risen c.loop-q.rows c.loop-q.olds in
-    let works : Working c.args.g c.args.marks.now c.args.moves.now s = working_kept c.requires.working c.loop-q.invariant.pushed c.loop-q.invariant.sized in
-    record { working = works; known = c.requires.known; onto = c.requires.onto; shaped = c.column_at-c.ensures.0; q_lt_states = c.loop-q-test.true }
+pub pull_one-rose-requires : goal.pull_one-rose-requires
+pull_one-rose-requires c =
+    let done = c.loop-q.invariant in
+    record { working = working_kept c.requires.working done.pushed done.sized; onto = c.requires.onto; shaped = c.of-c.ensures.0; state_in_game = omega arith }
 
 pub overflow_add-raised : goal.overflow_add-raised
-overflow_add-raised c =
-    let B : Board = board_in c.args.g c.args.marks.now c.args.moves.now in
-    omega (arith, raising-most c.requires.working.raising (pushed_then B c.args.g.mode c.loop-q.invariant.pushed c.pull_one-raised.ensures.pushed))
-
-pub overflow_add-q : goal.overflow_add-q
-overflow_add-q c = omega (arith, c.loop-q-test.true, c.requires.working.raising.ready.formed.few)
-
-pub loop-q-smaller : goal.loop-q-smaller
-loop-q-smaller c = omega (arith, c.loop-q-test.true)
+overflow_add-raised c = omega (arith, raising-most c.requires.working.raising (pushed_then (board c.args.game.now) c.args.game.now.arena.mode c.loop-q.invariant.pushed c.pull_one-rose.ensures.pushed), c.from-raised.ensures)
 
 pub loop-q-preserved : goal.loop-q-preserved
 loop-q-preserved c =
-    let B : Board = board_in c.args.g c.args.marks.now c.args.moves.now in
-    let first : Rising = rising c.args.table.now c.args.risen.now c.args.rows.now c.args.olds.now in
-    let s : Rising = rising c.loop-q.table c.loop-q.risen c.loop-q.rows c.loop-q.olds in
-    let a = c.args in
-    upto_more B a.g.mode (Heeds B a.g.mode c.column_at-c.result.bit c.column_at-c.result.blue) first s _ _ _ _ c.loop-q.invariant c.pull_one-raised.ensures.pushed
-    (record { risen = c.pull_one-raised.auto.risen; rows = c.pull_one-raised.auto.rows; olds = c.pull_one-raised.auto.olds }) c.pull_one-raised.ensures.heeds (λ y h. heeds_kept B a.g.mode c.pull_one-raised.ensures.pushed c.column_at-c.result.bit c.column_at-c.result.blue y h)
+    rw c.from-raised.ensures (upto_more c.loop-q.invariant c.pull_one-rose.ensures.pushed (record { risen = c.pull_one-rose.auto.risen; rows = c.pull_one-rose.auto.rows; olds = c.pull_one-rose.auto.olds })
+    c.pull_one-rose.ensures.heeds (heeds_kept _ _ c.pull_one-rose.ensures.pushed c.of-c.result.bit c.of-c.result.blue))
 
 pub returns : goal.returns
-returns c =
-    let B : Board = board_in c.args.g c.args.marks.now c.args.moves.now in
-    let a = c.args in
-    record { pushed = c.loop-q.invariant.pushed; column_heeds = heeds_column B a.g.mode c.loop-q.table c.column_at-c.ensures (λ q h. c.loop-q.invariant.each q (omega (arith, c.loop-q-test.false))) }
+returns c = record { pushed = c.loop-q.invariant.pushed; column_heeds = heeds_column c.loop-q.table c.of-c.ensures (λ q h. c.loop-q.invariant.each q (omega arith)) }

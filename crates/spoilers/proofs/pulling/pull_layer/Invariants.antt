@@ -1,13 +1,10 @@
--- `spoilers::pulling::pull_layer` meets its contract. The invariant: the columns below r heed all of their moves. The measure is the number of columns left.
-use Prim.Native.Nat.{◌-◌}
-use Rattle.arena.specs.Arena.{board_in}
+-- `spoilers::pulling::pull_layer` meets its contract. The invariant: the columns below r heed all of their moves.
+use Rattle.arena.specs.Game.{board}
 use Rattle.halves.specs.Rising.{rising}
 use Rattle.spoilers.specs.Pull.{ColumnHeeds}
 use Rattle.spoilers.proofs.Through.{Upto}
 use Rattle.spoilers.proofs.pulling.pull_layer.Given as goal
 
 abbrev pub invariant-loop-r : goal.invariant-loop-r
-invariant-loop-r l = Upto (board_in l.g l.marks l.moves) l.g.mode (ColumnHeeds (board_in l.g l.marks l.moves) l.g.mode l.b) (rising l.initial.table l.initial.risen l.initial.rows l.initial.olds) (rising l.table l.risen l.rows l.olds) l.raised l.r
-
-abbrev pub decreases-loop-r : goal.decreases-loop-r
-decreases-loop-r l = l.g.states - l.r
+invariant-loop-r l =
+    Upto (board l.game) l.game.arena.mode (ColumnHeeds (board l.game) l.game.arena.mode l.b) (rising l.initial.table l.initial.risen l.initial.rows l.initial.olds) (rising l.table l.risen l.rows l.olds) l.raised l.r

@@ -1,67 +1,36 @@
--- `spoilers::raise::put` meets its contract. The invariant: the members of hit that are not left have what they are given. The measure is what is left, as a number.
-use mathlib.Core.List.{List}
-use Prim.Native.Nat.{ℕ, ◌≤◌}
-use native.Mathlib.Nat.{le_trans}
-use native.Mathlib.Omega.{arith}
-use Rattle.games.specs.Game.{at}
-use Rattle.words.specs.Word.{Pop}
-use Rattle.automaton.specs.Board.{Board}
+-- `spoilers::raise::put` meets its contract. The invariant: the members of hit that are not left have what they are given.
+use Rattle.std.proofs.Common.{le_trans, arith}
 use Rattle.simulation.specs.Position.{pair}
-use Rattle.arena.specs.Arena.{board_in}
-use Rattle.halves.specs.Rising.{Rising, rising}
+use Rattle.arena.specs.Game.{board}
 use Rattle.halves.proofs.Places.{pair-below}
-use Rattle.spoilers.specs.Work.{Raising, given}
 use Rattle.spoilers.proofs.Parts.{pushed_then, asked-kept, raising-kept, raising-most}
-use Rattle.spoilers.proofs.Through.{popped, through_start, through_more, through_end}
+use Rattle.spoilers.proofs.Through.{through_start, through_more, through_end}
 use Rattle.spoilers.proofs.raise.put.Goals as goal
 
-abbrev Has : Board → (b r bump v w : ℕ) → (t : List ℕ) → ℕ → Type 0
-Has B b r bump v w t q = given bump v w q ≤ at t (pair B b q r)
+pub loop-q-init : goal.loop-q-init
+loop-q-init c = rw (c.into_iter-q-iterator.ensures.into_iter_gives, c.members-q-items.ensures) (through_start _ _)
 
-pub loop-m-init : goal.loop-m-init
-loop-m-init c = through_start _ _ _ _ _
+pub to-requires : goal.to-requires
+to-requires c = c.in-Some.ensures.steps.1.bound
 
-pub given-e-requires : goal.given-e-requires
-given-e-requires c =
-    let pop : Pop c.loop-m.m c.lowest-q.result c.rest-m.result = popped c.lowest-q.ensures c.rest-m.ensures in
-    pop.bound
-
-pub raise-raised-requires : goal.raise-raised-requires
-raise-raised-requires c =
-    let B : Board = board_in c.args.g c.args.marks.now c.args.moves.now in
-    let s : Rising = rising c.loop-m.table c.loop-m.risen c.loop-m.rows c.loop-m.olds in
-    let works : Raising c.args.g c.args.marks.now c.args.moves.now s = raising-kept c.requires.raising c.loop-m.invariant.pushed c.loop-m.invariant.sized in
-    let pop : Pop c.loop-m.m c.lowest-q.result c.rest-m.result = popped c.lowest-q.ensures c.rest-m.ensures in
-    let (hq, due) = c.requires.hits c.lowest-q.result (c.loop-m.invariant.sub c.lowest-q.result pop.here) in
-    let (hb, hr) = c.requires.b_bound in
-    let kept = asked-kept B c.args.g.mode c.requires.raising.ready.formed c.args.table.now c.loop-m.table c.loop-m.invariant.pushed.others
-    (pair B c.args.b c.lowest-q.result c.args.r) (pair-below B c.args.g.mode c.requires.raising.ready.formed c.args.b c.lowest-q.result c.args.r hb hq hr) in
-    record { raising = works; b_bound = (hb, hq, hr); e_bound = rw (kept, c.given-e.ensures) due }
+pub raise-rose-requires : goal.raise-rose-requires
+raise-rose-requires c =
+    let B = board c.args.game.now in
+    let m = c.args.game.now.arena.mode in
+    let F = c.requires.raising.ready.formed in
+    let done = c.loop-q.invariant in
+    let (hb, hr) = c.requires.column_in_game in
+    let (hq, due) = c.requires.hits c.in-Some.q (done.sub c.in-Some.q c.in-Some.ensures.steps.1.here) in
+    let kept = asked-kept B m F c.args.table.now c.loop-q.table done.pushed.others (pair B c.args.b c.in-Some.q c.args.r) (pair-below B m F c.args.b c.in-Some.q c.args.r hb hq hr) in
+    record { raising = raising-kept c.requires.raising done.pushed done.sized; position_in_game = (hb, hq, hr); due = rw (kept, c.to.ensures) due }
 
 pub overflow_add-raised : goal.overflow_add-raised
-overflow_add-raised c =
-    let B : Board = board_in c.args.g c.args.marks.now c.args.moves.now in
-    omega (arith, raising-most c.requires.raising (pushed_then B c.args.g.mode c.loop-m.invariant.pushed c.raise-raised.ensures.pushed))
+overflow_add-raised c = omega (arith, raising-most c.requires.raising (pushed_then (board c.args.game.now) c.args.game.now.arena.mode c.loop-q.invariant.pushed c.raise-rose.ensures.pushed), c.from-raised.ensures)
 
-pub loop-m-smaller : goal.loop-m-smaller
-loop-m-smaller c =
-    let pop : Pop c.loop-m.m c.lowest-q.result c.rest-m.result = popped c.lowest-q.ensures c.rest-m.ensures in
-    pop.less
-
-pub loop-m-preserved : goal.loop-m-preserved
-loop-m-preserved c =
-    let B : Board = board_in c.args.g c.args.marks.now c.args.moves.now in
-    let first : Rising = rising c.args.table.now c.args.risen.now c.args.rows.now c.args.olds.now in
-    let s : Rising = rising c.loop-m.table c.loop-m.risen c.loop-m.rows c.loop-m.olds in
-    let pop : Pop c.loop-m.m c.lowest-q.result c.rest-m.result = popped c.lowest-q.ensures c.rest-m.ensures in
-    let a = c.args in
-    through_more B a.g.mode a.hit (Has B a.b a.r a.bump a.v a.w) first s _ _ _ _ _ _ c.loop-m.invariant pop c.raise-raised.ensures.pushed
-    (record { risen = c.raise-raised.auto.risen; rows = c.raise-raised.auto.rows; olds = c.raise-raised.auto.olds }) (rw (← c.given-e.ensures) c.raise-raised.ensures.e_bound_2) (λ y h. le_trans h (c.raise-raised.ensures.pushed.grown _))
+pub loop-q-preserved : goal.loop-q-preserved
+loop-q-preserved c =
+    rw c.from-raised.ensures (through_more c.loop-q.invariant c.in-Some.ensures.steps.1 c.raise-rose.ensures.pushed (record { risen = c.raise-rose.auto.risen; rows = c.raise-rose.auto.rows; olds = c.raise-rose.auto.olds })
+    (rw (← c.to.ensures) c.raise-rose.ensures.held) (λ y h. le_trans h (c.raise-rose.ensures.pushed.grown _)))
 
 pub returns : goal.returns
-returns c =
-    let B : Board = board_in c.args.g c.args.marks.now c.args.moves.now in
-    let first : Rising = rising c.args.table.now c.args.risen.now c.args.rows.now c.args.olds.now in
-    let s : Rising = rising c.loop-m.table c.loop-m.risen c.loop-m.rows c.loop-m.olds in
-    let a = c.args in
-    record { pushed = c.loop-m.invariant.pushed; holds = through_end B a.g.mode a.hit (Has B a.b a.r a.bump a.v a.w) first s _ _ c.loop-m.invariant c.loop-m-test.false }
+returns c = record { pushed = c.loop-q.invariant.pushed; holds = through_end c.loop-q.invariant c.in-None.ensures.steps.0 }

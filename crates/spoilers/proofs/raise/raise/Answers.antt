@@ -1,84 +1,51 @@
 -- `spoilers::raise::raise` meets its contract: the entry has e already, or e is written and noted.
-use mathlib.Core.Path.{sym}
-use native.Mathlib.Omega.{arith}
-use Rattle.automaton.specs.Board.{Board}
-use Rattle.arena.specs.Arena.{board_in}
-use Rattle.halves.specs.Rising.{Rising, rising}
+use Rattle.std.proofs.Common.{sym, arith}
+use Rattle.arena.specs.Game.{board}
+use Rattle.halves.specs.Rising.{rising}
 use Rattle.halves.proofs.Places.{pair_row}
 use Rattle.spoilers.proofs.Parts.{pushed_none}
 use Rattle.spoilers.proofs.Events.{raise_event}
 use Rattle.spoilers.proofs.Bounds.{Placed, placed}
+use Rattle.spoilers.proofs.raise.raise.Goals.{Start}
 use Rattle.spoilers.proofs.raise.raise.Goals as goal
 
+place : (c : Start) → Placed c.args.game.now.arena (rising c.args.table.now c.args.risen.now c.args.rows.now c.args.olds.now) c.args.b c.args.q c.args.r
+place c = placed c.args.game.now _ c.requires.raising c.args.b c.args.q c.args.r c.requires.position_in_game.0 c.requires.position_in_game.1 c.requires.position_in_game.2
+
 pub overflow_mul-row : goal.overflow_mul-row
-overflow_mul-row c =
-    let s : Rising = rising c.args.table.now c.args.risen.now c.args.rows.now c.args.olds.now in
-    let place : Placed c.args.g s c.args.b c.args.q c.args.r = placed c.args.g c.args.marks.now c.args.moves.now s c.requires.raising c.args.b c.args.q c.args.r c.requires.b_bound.0 c.requires.b_bound.1 c.requires.b_bound.2 in
-    omega (arith, place.row)
+overflow_mul-row c = omega (arith, (place (goal.at.overflow_mul-row c).Start).row)
 
 pub overflow_add-row : goal.overflow_add-row
-overflow_add-row c =
-    let s : Rising = rising c.args.table.now c.args.risen.now c.args.rows.now c.args.olds.now in
-    let place : Placed c.args.g s c.args.b c.args.q c.args.r = placed c.args.g c.args.marks.now c.args.moves.now s c.requires.raising c.args.b c.args.q c.args.r c.requires.b_bound.0 c.requires.b_bound.1 c.requires.b_bound.2 in
-    omega (arith, place.row, place.states)
+overflow_add-row c = let p = place (goal.at.overflow_add-row c).Start in omega (arith, p.row, p.states)
 
 pub overflow_mul-i : goal.overflow_mul-i
-overflow_mul-i c =
-    let s : Rising = rising c.args.table.now c.args.risen.now c.args.rows.now c.args.olds.now in
-    let place : Placed c.args.g s c.args.b c.args.q c.args.r = placed c.args.g c.args.marks.now c.args.moves.now s c.requires.raising c.args.b c.args.q c.args.r c.requires.b_bound.0 c.requires.b_bound.1 c.requires.b_bound.2 in
-    omega (arith, place.small)
+overflow_mul-i c = omega (arith, (place (goal.at.overflow_mul-i c).Start).small)
 
 pub overflow_add-i : goal.overflow_add-i
-overflow_add-i c =
-    let s : Rising = rising c.args.table.now c.args.risen.now c.args.rows.now c.args.olds.now in
-    let place : Placed c.args.g s c.args.b c.args.q c.args.r = placed c.args.g c.args.marks.now c.args.moves.now s c.requires.raising c.args.b c.args.q c.args.r c.requires.b_bound.0 c.requires.b_bound.1 c.requires.b_bound.2 in
-    omega (arith, place.small)
+overflow_add-i c = omega (arith, (place (goal.at.overflow_add-i c).Start).small)
 
 pub offset_bounds-table-i : goal.offset_bounds-table-i
-offset_bounds-table-i c =
-    let s : Rising = rising c.args.table.now c.args.risen.now c.args.rows.now c.args.olds.now in
-    let place : Placed c.args.g s c.args.b c.args.q c.args.r = placed c.args.g c.args.marks.now c.args.moves.now s c.requires.raising c.args.b c.args.q c.args.r c.requires.b_bound.0 c.requires.b_bound.1 c.requires.b_bound.2 in
-    omega (arith, place.small)
+offset_bounds-table-i c = omega (arith, (place (goal.at.offset_bounds-table-i c).Start).small)
 
 pub bounds-table-i : goal.bounds-table-i
-bounds-table-i c =
-    let s : Rising = rising c.args.table.now c.args.risen.now c.args.rows.now c.args.olds.now in
-    let place : Placed c.args.g s c.args.b c.args.q c.args.r = placed c.args.g c.args.marks.now c.args.moves.now s c.requires.raising c.args.b c.args.q c.args.r c.requires.b_bound.0 c.requires.b_bound.1 c.requires.b_bound.2 in
-    place.entry
+bounds-table-i c = (place (goal.at.bounds-table-i c).Start).entry
 
-pub offset_bounds-table-i-then-was-e : goal.offset_bounds-table-i-then-was-e
-offset_bounds-table-i-then-was-e c =
-    let s : Rising = rising c.args.table.now c.args.risen.now c.args.rows.now c.args.olds.now in
-    let place : Placed c.args.g s c.args.b c.args.q c.args.r = placed c.args.g c.args.marks.now c.args.moves.now s c.requires.raising c.args.b c.args.q c.args.r c.requires.b_bound.0 c.requires.b_bound.1 c.requires.b_bound.2 in
-    omega (arith, place.small)
+pub offset_bounds-table-i-2 : goal.offset_bounds-table-i-2
+offset_bounds-table-i-2 c = omega (arith, (place (goal.at.offset_bounds-table-i-2 c).Start).small)
 
-pub bounds-table-i-then-was-e : goal.bounds-table-i-then-was-e
-bounds-table-i-then-was-e c =
-    let s : Rising = rising c.args.table.now c.args.risen.now c.args.rows.now c.args.olds.now in
-    let place : Placed c.args.g s c.args.b c.args.q c.args.r = placed c.args.g c.args.marks.now c.args.moves.now s c.requires.raising c.args.b c.args.q c.args.r c.requires.b_bound.0 c.requires.b_bound.1 c.requires.b_bound.2 in
-    place.entry
+pub bounds-table-i-2 : goal.bounds-table-i-2
+bounds-table-i-2 c = (place (goal.at.bounds-table-i-2 c).Start).entry
 
 pub note-requires : goal.note-requires
-note-requires c =
-    let s : Rising = rising c.args.table.now c.args.risen.now c.args.rows.now c.args.olds.now in
-    let place : Placed c.args.g s c.args.b c.args.q c.args.r = placed c.args.g c.args.marks.now c.args.moves.now s c.requires.raising c.args.b c.args.q c.args.r c.requires.b_bound.0 c.requires.b_bound.1 c.requires.b_bound.2 in
-    let p = place in
-    (p.risen, p.olds, p.rows, omega (arith, p.states), omega (arith, p.states))
+note-requires c = let p = place (goal.at.note-requires c).Start in (p.risen, p.olds, p.rows, omega (arith, p.states), omega (arith, p.states))
 
-pub returns-then-was-e : goal.returns-then-was-e
-returns-then-was-e c =
-    let B : Board = board_in c.args.g c.args.marks.now c.args.moves.now in
-    let s : Rising = rising c.args.table.now c.args.risen.now c.args.rows.now c.args.olds.now in
-    let place : Placed c.args.g s c.args.b c.args.q c.args.r = placed c.args.g c.args.marks.now c.args.moves.now s c.requires.raising c.args.b c.args.q c.args.r c.requires.b_bound.0 c.requires.b_bound.1 c.requires.b_bound.2 in
-    let a = c.args in
-    let both = raise_event B a.g.mode c.requires.raising.ready.formed a.b a.q a.r a.e c.requires.b_bound.0 c.requires.b_bound.1 c.requires.b_bound.2
-    a.table.now a.risen.now a.rows.now a.olds.now _ _ _ _ _ (sym (pair_row B a.b a.q a.r)) place.entry
-    c.if-was-e.true c.requires.e_bound c.note.ensures in
-    record { pushed = both.0; e_bound_2 = both.1 }
+pub returns-then-e-was : goal.returns-then-e-was
+returns-then-e-was c = record { pushed = pushed_none (board c.args.game.now) c.args.game.now.arena.mode _; held = rw (pair_row (board c.args.game.now) c.args.b c.args.q c.args.r) c.if-e-was.true }
 
 pub returns : goal.returns
 returns c =
-    let B : Board = board_in c.args.g c.args.marks.now c.args.moves.now in
-    let s : Rising = rising c.args.table.now c.args.risen.now c.args.rows.now c.args.olds.now in
+    let B = board c.args.game.now in
     let a = c.args in
-    record { pushed = pushed_none B a.g.mode (s); e_bound_2 = rw (pair_row B a.b a.q a.r) c.if-was-e.false }
+    let (pushed, held) = raise_event B a.game.now.arena.mode c.requires.raising.ready.formed a.b a.q a.r a.e c.requires.position_in_game.0 c.requires.position_in_game.1 c.requires.position_in_game.2
+    a.table.now a.risen.now a.rows.now a.olds.now _ _ _ _ _ (sym (pair_row B a.b a.q a.r)) (place (goal.at.returns c).Start).entry (omega (arith, c.if-e-was.false)) c.requires.due c.note.ensures in
+    record { pushed = pushed; held = held }

@@ -1,7 +1,5 @@
 -- `fill::fill` meets its contract: the lines left mark and lay, from here on, what all lines do from the start.
-use mathlib.Core.Path.{◌≡◌}
-use Prim.Native.Nat.{◌-◌, ◌≤◌}
-use lib.ListN.{length, drop}
+use Rattle.std.proofs.Common.{◌≡◌, ◌-◌, ◌≤◌, length, drop}
 use Rattle.fields.specs.Bytes.{laid}
 use Rattle.lines.specs.Lines.{lines_of}
 use Rattle.text.specs.Text.{accepts, moves as moves_of, marked}
@@ -9,10 +7,11 @@ use Rattle.text.specs.Fill.{bytes}
 use Rattle.text.proofs.fill.fill.Given as goal
 
 abbrev pub invariant-loop-at : goal.invariant-loop-at
-invariant-loop-at l =
-    (l.at ≤ length l.text) × (length l.marks ≡ length l.initial.marks) × (length l.moves ≡ length l.initial.moves)
-    × (marked (accepts (lines_of (drop l.at l.text))) l.marks ≡ marked (accepts (lines_of l.text)) l.initial.marks)
-    × (laid l.to (bytes (moves_of (lines_of (drop l.at l.text)))) l.moves ≡ laid 0 (bytes (moves_of (lines_of l.text))) l.initial.moves)
+invariant-loop-at l = record {
+  within : l.at ≤ length l.text;
+  marked_left : marked (accepts (lines_of (drop l.at l.text))) l.marks ≡ marked (accepts (lines_of l.text)) l.initial.marks;
+  laid_left : laid l.to (bytes (moves_of (lines_of (drop l.at l.text)))) l.moves ≡ laid 0 (bytes (moves_of (lines_of l.text))) l.initial.moves;
+}
 
 abbrev pub decreases-loop-at : goal.decreases-loop-at
 decreases-loop-at l = length l.text - l.at

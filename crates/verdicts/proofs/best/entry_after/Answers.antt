@@ -1,9 +1,7 @@
 -- `verdicts::best::entry_after` meets its contract: it reads the entry of Spoiler's position that Blue's move leads to.
-use Prim.Native.Nat.{ℕ, ◌<◌}
-use native.Mathlib.Omega.{arith}
-use lib.ListN.{length}
+use Rattle.std.proofs.Common.{◌<◌, arith}
 use Rattle.automaton.specs.Board.{Board, accepts}
-use Rattle.simulation.specs.Position.{layers, pair}
+use Rattle.simulation.specs.Position.{layers}
 use Rattle.simulation.proofs.Inward.{eased_lt}
 use Rattle.arena.specs.Seats.{bare}
 use Rattle.arena.proofs.Seats.{seat_lt}
@@ -11,11 +9,9 @@ use Rattle.verdicts.proofs.best.entry_after.Goals as goal
 
 pub bounds-table-bit : goal.bounds-table-bit
 bounds-table-bit c =
-    let board : Board = bare c.args.g c.args.marks.now in
-    let index : ℕ = pair (board) c.eased-bit.result c.args.q c.args.s in
-    let bit_lt : c.eased-bit.result < layers c.args.g.mode =
     let a = c.args in
-    omega (arith, c.eased-bit.ensures, eased_lt a.g.mode (accepts (board) a.s) a.b c.requires.b_bound.0) in
-    let inside : index < length c.args.table.now =
-    let a = c.args in seat_lt a.g a.marks.now a.table.now c.requires.seated c.eased-bit.result a.q a.s (bit_lt) c.requires.b_bound.1 c.requires.b_bound.2 in
-    omega (arith, inside)
+    let g = a.game.now in
+    let p = c.requires.position in
+    let board : Board = bare g.arena g.marks.now in
+    let bit_lt : c.eased-bit.result < layers g.arena.mode = omega (arith, c.eased-bit.ensures, eased_lt g.arena.mode (accepts board a.s) a.b p.0) in
+    omega (arith, seat_lt g.arena g.marks.now a.table.now c.requires.seated c.eased-bit.result a.q a.s bit_lt p.1 p.2)

@@ -1,38 +1,25 @@
--- `verdicts::best::scan` meets its contract: the best so far and the moves from i on lead to what all moves lead to.
-use mathlib.Core.Path.{◌≡◌, sym, ap, ◌∙◌}
-use mathlib.Core.List.{List}
-use Prim.Native.Nat.{ℕ, ◌+◌, ◌*◌, ◌/◌, ◌<◌}
-use native.Mathlib.Omega.{arith}
-use lib.ListN.{length, drop}
-use Rattle.automaton.specs.Board.{to}
-use Rattle.simulation.specs.Answers.{entry_after}
-use Rattle.arena.specs.declared.Arena.{Arena}
-use Rattle.arena.specs.Arena.{board_in}
+-- `verdicts::best::scan` meets its contract: move i is taken up if it leaves r by a, and passed over else.
+use Rattle.std.proofs.Common.{sym, ap, ◌∙◌, Option, Some, ◌+◌, ◌*◌, ◌<◌, length, drop, arith}
 use Rattle.verdicts.specs.declared.best.Best.{Best}
 use Rattle.verdicts.specs.Best.{improved, best_of}
 use Rattle.verdicts.proofs.Scanned.{goals, scan-taken, scan_passed}
 use Rattle.verdicts.proofs.best.scan.Goals.{then-leaves, else-leaves}
+use Rattle.verdicts.proofs.best.scan.Invariants.{entry}
 use Rattle.verdicts.proofs.best.scan.Goals as goal
-
-abbrev entry : Arena → (marks moves table : List ℕ) → (b q : ℕ) → ℕ → ℕ
-entry g marks moves t b q = entry_after (board_in g marks moves) g.mode t b q
 
 pub loop-i-preserved : goal.loop-i-preserved
 loop-i-preserved c =
-    let inside : c.loop-i.i < length c.args.moves.now / 3 → c.loop-i.i * 3 + 2 < length c.args.moves.now = λ l. omega arith in
     let a = c.args in
-    let f = entry a.g a.marks.now a.moves.now a.table.now a.b a.q in
-    let here = inside c.loop-i-test.true in
-    let left = goals a.r a.a (drop ((c.loop-i.i + 1) * 3) a.moves.now) in (
-      omega (arith, here),
-      elim c.if-leaves.branch [
-        | then-leaves w ↦ let goal = w.wide-s.ensures in
-            let led : w.entry_after.result ≡ f (to a.moves.now c.loop-i.i) = w.entry_after.ensures ∙ ap f goal in
-            ap (λ (b : Best). best_of f b left) (w.best-is ∙ w.improve-best.ensures ∙ (λ j. improved c.loop-i.best (goal j) (led j)))
-            ∙ scan-taken f c.loop-i.best a.r a.a a.moves.now c.loop-i.i here (sym c.leaves.ensures ∙ w.if-leaves.true)
-            ∙ c.loop-i.invariant.1
-        | else-leaves w ↦ ap (λ (b : Best). best_of f b left) w.best-is
-            ∙ scan_passed f c.loop-i.best a.r a.a a.moves.now c.loop-i.i here (sym c.leaves.ensures ∙ w.if-leaves.false)
-            ∙ c.loop-i.invariant.1
-      ],
-    )
+    let ms = a.game.now.moves.now in
+    let i = c.loop-i.i in
+    let f = entry a.game.now a.table.now a.b a.q in
+    let inside : i * 3 + 2 < length ms = omega arith in
+    let left : Option Best → Option Best = λ best. best_of f best (goals a.r a.a (drop ((i + 1) * 3) ms)) in
+    elim c.if-leaves.branch [
+      | then-leaves w ↦
+          let led = w.entry_after.ensures ∙ ap f w.wide-s.ensures in
+          ap left (w.best-is ∙ ap Some (w.improve.ensures ∙ (λ j. improved c.loop-i.best (w.wide-s.ensures j) (led j))))
+          ∙ scan-taken f c.loop-i.best a.r a.a ms i inside (sym c.leaves.ensures ∙ w.if-leaves.true)
+          ∙ c.loop-i.invariant
+      | else-leaves w ↦ ap left w.best-is ∙ scan_passed f c.loop-i.best a.r a.a ms i inside (sym c.leaves.ensures ∙ w.if-leaves.false) ∙ c.loop-i.invariant
+    ]

@@ -1,21 +1,17 @@
 -- `verdicts::best::scan` meets its contract: the best so far and the moves from i on lead to what all moves lead to.
-use mathlib.Core.Path.{◌≡◌}
-use mathlib.Core.List.{List}
-use Prim.Native.Nat.{ℕ, ◌*◌, ◌-◌, ◌/◌, ◌≤◌}
-use lib.ListN.{length, drop}
+use Rattle.std.proofs.Common.{◌≡◌, List, ℕ, ◌*◌, drop, None}
 use Rattle.simulation.specs.Answers.{entry_after}
-use Rattle.arena.specs.declared.Arena.{Arena}
-use Rattle.arena.specs.Arena.{board_in}
-use Rattle.verdicts.specs.declared.best.Best.TheVariants.{Nothing}
+use Rattle.arena.specs.declared.game.Game.{Game}
+use Rattle.arena.specs.Game.{board}
 use Rattle.verdicts.specs.Best.{best_of}
 use Rattle.verdicts.proofs.Scanned.{goals}
 use Rattle.verdicts.proofs.best.scan.Given as goal
 
-abbrev pub entry : Arena → (marks moves table : List ℕ) → (b q : ℕ) → ℕ → ℕ
-entry g marks moves t b q = entry_after (board_in g marks moves) g.mode t b q
+-- the entry where Blue's move to a state leads, Red standing on q
+abbrev pub entry : Game → (table : List ℕ) → (b q : ℕ) → ℕ → ℕ
+entry g t b q = entry_after (board g) g.arena.mode t b q
 
 abbrev pub invariant-loop-i : goal.invariant-loop-i
-invariant-loop-i l = (l.i * 3 ≤ length l.moves) × (best_of (entry l.g l.marks l.moves l.table l.b l.q) l.best (goals l.r l.a (drop (l.i * 3) l.moves)) ≡ best_of (entry l.g l.marks l.moves l.table l.b l.q) Nothing (goals l.r l.a l.moves))
-
-abbrev pub decreases-loop-i : goal.decreases-loop-i
-decreases-loop-i l = length l.moves / 3 - l.i
+invariant-loop-i l =
+    let f = entry l.game l.table l.b l.q in
+    best_of f l.best (goals l.r l.a (drop (l.i * 3) l.game.moves.now)) ≡ best_of f None (goals l.r l.a l.game.moves.now)

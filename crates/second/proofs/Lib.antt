@@ -1,0 +1,2 @@
+-- The lemma that the proof of `relation` uses.
+pub mod Checked

@@ -1,9 +1,0 @@
--- `second::round::before` meets its contract: the loop runs over the states.
-use Prim.Native.Nat.{◌≤◌, ◌-◌}
-use Rattle.second.proofs.round.before.Given as goal
-
-abbrev pub invariant-loop-q : goal.invariant-loop-q
-invariant-loop-q l = l.q ≤ l.states
-
-abbrev pub decreases-loop-q : goal.decreases-loop-q
-decreases-loop-q l = l.states - l.q
