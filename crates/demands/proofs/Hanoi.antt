@@ -8,7 +8,7 @@ use Rattle.automaton.specs.Board.{Formed}
 use Rattle.simulation.specs.Answers.{below, settled}
 use Rattle.simulation.specs.Moves.{Moves}
 use Rattle.simulation.specs.Won.{WonPair}
-use Rattle.bodies.specs.Body.{accepting}
+use Rattle.bodies.specs.Body.{accepting, unlisted}
 use Rattle.text.specs.Calls.{Lent, lent_of, before}
 use Rattle.text.specs.Text as of-text
 use Rattle.printer.specs.Printed.{relation_text}
@@ -67,7 +67,7 @@ module _ (file : List ℕ) (b : Limits) (x : Lent) where
     hanoi_formed = legible_formed L
 
     -- "marks on states only"
-    pub hanoi_marks : (q : ℕ) → q < f.header.states → (get_or (marks_in f) q 0 ≡ 1) ↔ (get_or f.sheet q 0 ≡ accepting)
+    pub hanoi_marks : (q : ℕ) → q < f.header.states → (get_or (marks_in f) q 0 ≡ 1) ↔ (get_or f.sheet q unlisted ≡ accepting)
     hanoi_marks = marks_exact f
 
 -- ---- "A second program reads such a file in mode 2."
