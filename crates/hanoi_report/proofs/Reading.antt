@@ -1,7 +1,6 @@
 -- What `read` tells the report, with room for every file of the programs: why the file is refused, or that it is legible and what it gives.
 use Rattle.std.proofs.Common.{Ok, ◌*◌, subst, take, ◌≡◌, refl, sym, ap, ◌∙◌, List, ℕ, ◌/◌, ◌≤◌, arith, length}
 use lib.ListN.{length-replicate}
-use Rattle.automaton.specs.declared.Automaton.{Automaton}
 use Rattle.automaton.specs.declared.Refusal.{Refusal}
 use Rattle.automaton.specs.declared.Refusal.TheVariants.{TooLong}
 use Rattle.automaton.specs.Answer.{Fault, none, fault, first_fault, refused}

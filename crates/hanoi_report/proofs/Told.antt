@@ -1,6 +1,6 @@
 -- What a report comes to: one list of bytes for each file, no longer than a buffer must be.
-use Rattle.std.proofs.Common.{Ok, Result, ◌≡◌, refl, sym, ap, ◌∙◌, subst, List, ℕ, ◌≤◌, arith, length}
-use Rattle.automaton.specs.declared.Refusal.TheVariants.{OutputLength, TooLong}
+use Rattle.std.proofs.Common.{Ok, Result, ◌≡◌, refl, sym, ap, ◌∙◌, List, ℕ, ◌≤◌, arith, length}
+use Rattle.automaton.specs.declared.Refusal.TheVariants.{TooLong}
 use Rattle.automaton.specs.Answer.{Answer, answered, Fault, none, fault, first_fault, valued}
 use Rattle.automaton.specs.declared.Refusal.{Refusal}
 use Rattle.tokens.specs.Tokens.{token_from}

@@ -2,9 +2,8 @@
 use Rattle.std.proofs.Common.{Ok, Result, ◌≡◌, refl, sym, ap, ◌∙◌, List, ℕ, ◌≤◌, ◌<◌, arith, lt-ltb, le-ltb, ltb, length}
 use Rattle.automaton.specs.declared.Refusal.{Refusal}
 use Rattle.automaton.specs.declared.Refusal.TheVariants.{OutputLength}
-use Rattle.automaton.specs.Answer.{Fault, answered, none, fault, valued, value, refused}
+use Rattle.automaton.specs.Answer.{Fault, answered, none, fault, valued, refused}
 use Rattle.automaton.specs.Effect.{Effect}
-use Rattle.automaton.proofs.One.{refused-not}
 use Rattle.fields.specs.Bytes.{laid, stop}
 use Rattle.fields.proofs.Laid.{laid-whole, stop-whole}
 use Rattle.fields.proofs.Tests.{by_test}
@@ -63,18 +62,10 @@ module _ (text : List ℕ) where
     pub report_counted : longest ≤ length out → (r : Result ℕ Refusal) → answered valued r ≡ (reporting text out).answer → r ≡ Ok (length (report_of text))
     report_counted h r e = one_reported r (Ok (length (report_of text))) (e ∙ ap (λ (x : Effect (List ℕ)). x.answer) (printed-effect h))
 
-    -- the buffer keeps its length, and the bytes counted lie in it
+    -- the buffer keeps its length
     pub report-long : length (reporting text out).left ≡ length out
     report-long =
         by_test (length out) longest (ltb (length out) longest) refl
         (λ (few : length out < longest). ap (λ (x : Effect (List ℕ)). length x.left) (short_effect few))
         (λ (room : longest ≤ length out).
         ap (λ (x : Effect (List ℕ)). length x.left) (printed-effect room) ∙ before-long (report_of text) out (omega (arith, report_fits)))
-
-    pub report-within : (n : ℕ) → valued n ≡ (reporting text out).answer → n ≤ length out
-    report-within n e =
-        by_test (length out) longest (ltb (length out) longest) refl
-        (λ (few : length out < longest). absurd (refused-not OutputLength (valued n) refl (sym (e ∙ ap (λ (x : Effect (List ℕ)). x.answer) (short_effect few)))))
-        (λ (room : longest ≤ length out).
-        let long : n ≡ length (report_of text) = ap value (e ∙ ap (λ (x : Effect (List ℕ)). x.answer) (printed-effect room)) in
-        omega (arith, report_fits))

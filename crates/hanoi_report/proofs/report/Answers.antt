@@ -1,8 +1,9 @@
 -- `report` meets its contract: `read` refuses the file or gives a legible one, whose relation has room.
 use Rattle.std.proofs.Common.{◌*◌, arith, length-take-le, refl, sym}
+use Rattle.std.proofs.lemmas.Option.{none-some}
 use Rattle.text.specs.Calls.{lent_of}
 use Rattle.hanoi_report.specs.Report.{short}
-use Rattle.hanoi_report.proofs.Reading.{Given, bytes_few, job_fits, job_printed, marks_long, moves_long, read-given, refused-printed, states_few}
+use Rattle.hanoi_report.proofs.Reading.{bytes_few, job_fits, job_printed, marks_long, moves_long, read-given, refused-printed, states_few}
 use Rattle.hanoi_report.proofs.Told.{report-put}
 use Rattle.hanoi_report.proofs.report.Goals as goal
 
@@ -36,7 +37,8 @@ slice_bounds-job-end-in-Ok c =
 
 pub describe-requires : goal.describe-requires
 describe-requires c =
-    job_fits (read-given c.args.file.now c.in-Ok.reading (lent_of c.read.new.marks c.read.new.moves) c.in-Ok.ensures)
+    let small = job_fits (read-given c.args.file.now c.in-Ok.reading (lent_of c.read.new.marks c.read.new.moves) c.in-Ok.ensures) in
+    ((small.0.0, small.0.1, λ e. none-some _ (sym e)), small.1)
 
 pub returns-in-Ok : goal.returns-in-Ok
 returns-in-Ok c =
