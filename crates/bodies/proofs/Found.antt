@@ -5,20 +5,22 @@ use Rattle.tokens.specs.declared.Sort.{Sort}
 use Rattle.tokens.specs.declared.Sort.TheVariants as sort
 use Rattle.tokens.specs.declared.Token.{Token}
 use Rattle.tokens.specs.Here.{Here, Number}
+use Rattle.bodies.specs.declared.Entry.{Entry}
+use Rattle.bodies.specs.declared.Entry.TheVariants.{Unlisted}
 use Rattle.bodies.specs.declared.Due.{Due}
 use Rattle.bodies.specs.declared.Due.TheVariants as due
 use Rattle.bodies.specs.declared.Next.{Next}
 use Rattle.bodies.specs.declared.Next.TheVariants as next
-use Rattle.bodies.specs.Body.{Edge, listed, accepting, unlisted, Name, no_name, name, Marks, no_marks, empty, marked, IsEdge, edge as is_edge, Edges, no_edge, edges, Blocks, no_block, block}
+use Rattle.bodies.specs.Body.{Edge, listed, accepting, unlisted, is_unlisted, Name, no_name, name, Marks, no_marks, empty, marked, IsEdge, edge as is_edge, Edges, no_edge, edges, Blocks, no_block, block}
 use Rattle.bodies.specs.Stands.{block_next, edges_next, signed_next, named_next, closed_next, braces_next, state_next, over_next, step}
 use Rattle.bodies.specs.Walk.{Outcome, held, Led, led, Walk, goes, lists, marks, edge, astray, over, stuck}
 
 -- T gives tokens, n states, p propositions; in the end there are the sheet t and the edges gs
-module _ (T : ℕ → Token) (n p : ℕ) (t : List ℕ) (gs : List Edge) where
+module _ (T : ℕ → Token) (n p : ℕ) (t : List Entry) (gs : List Edge) where
   -- ---- what stands from i on, with this sheet and these edges before it
 
   -- blocks, and the end
-  pub record Rest (s : List ℕ) (es : List Edge) (i : ℕ) : Type 0 where
+  pub record Rest (s : List Entry) (es : List Edge) (i : ℕ) : Type 0 where
     pub after_blocks : ℕ
     pub after-end : ℕ
     pub blocks : Blocks T n p s es i t gs after_blocks
@@ -26,47 +28,47 @@ module _ (T : ℕ → Token) (n p : ℕ) (t : List ℕ) (gs : List Edge) where
     pub nothing : (T after-end).sort ≡ sort.Nothing
 
   -- edges of q, and the rest
-  record Edging (q : ℕ) (s : List ℕ) (es : List Edge) (i : ℕ) : Type 0 where
+  record Edging (q : ℕ) (s : List Entry) (es : List Edge) (i : ℕ) : Type 0 where
     after-edges : ℕ
     all : List Edge
     run : Edges T n p q es i all after-edges
     rest : Rest s all after-edges
 
   -- a `}` before them
-  abbrev Closing : (q : ℕ) → (s : List ℕ) → (es : List Edge) → (i : ℕ) → Type 0
+  abbrev Closing : (q : ℕ) → (s : List Entry) → (es : List Edge) → (i : ℕ) → Type 0
   Closing q s es i = ((T i).sort ≡ sort.MarksEnd) × Edging q s es (T i).next
 
   -- the rest of `{}` or `{0}` before them
-  data Braced (q : ℕ) (s : List ℕ) (es : List Edge) (i : ℕ) : Type 0 where
+  data Braced (q : ℕ) (s : List Entry) (es : List Edge) (i : ℕ) : Type 0 where
     closed : Closing q s es i → Braced q s es i
     zero : Number T i 0 (T i).next → Closing q (set s q accepting) es (T i).next → Braced q s es i
 
   -- marks of q, or none
-  data Signing (q : ℕ) (s : List ℕ) (es : List Edge) (i : ℕ) : Type 0 where
+  data Signing (q : ℕ) (s : List Entry) (es : List Edge) (i : ℕ) : Type 0 where
     unsigned : Edging q s es i → Signing q s es i
     signed : (T i).sort ≡ sort.Marks → Braced q s es (T i).next → Signing q s es i
 
   -- a name of q, or none
-  data Naming (q : ℕ) (s : List ℕ) (es : List Edge) (i : ℕ) : Type 0 where
+  data Naming (q : ℕ) (s : List Entry) (es : List Edge) (i : ℕ) : Type 0 where
     unnamed : Signing q s es i → Naming q s es i
     named : (T i).sort ≡ sort.Quoted → Signing q s es (T i).next → Naming q s es i
 
   -- the number of a state that is not listed yet
-  record Listing (s : List ℕ) (es : List Edge) (i : ℕ) : Type 0 where
+  record Listing (s : List Entry) (es : List Edge) (i : ℕ) : Type 0 where
     state : ℕ
     number : (T i).sort ≡ sort.Number state
     low : state < n
-    new : get_or s state 0 ≡ unlisted
+    new : get_or s state unlisted ≡ unlisted
     naming : Naming state (set s state listed) es (T i).next
 
   -- nothing more
-  record Ending (s : List ℕ) (es : List Edge) (i : ℕ) : Type 0 where
+  record Ending (s : List Entry) (es : List Edge) (i : ℕ) : Type 0 where
     nothing : (T i).sort ≡ sort.Nothing
     sheet : s ≡ t
     edges : es ≡ gs
 
   -- by what is due
-  abbrev Stands : Due → (s : List ℕ) → (es : List Edge) → (i : ℕ) → Type 0
+  abbrev Stands : Due → (s : List Entry) → (es : List Edge) → (i : ℕ) → Type 0
   Stands due.Block s es i = Rest s es i
   Stands due.State s es i = Listing s es i
   Stands (due.Named q) s es i = Naming q s es i
@@ -77,14 +79,14 @@ module _ (T : ℕ → Token) (n p : ℕ) (t : List ℕ) (gs : List Edge) where
   Stands due.Nothing s es i = Ending s es i
 
   -- an edge behind its `[`, and what stands behind it
-  record Edged (q : ℕ) (s : List ℕ) (es : List Edge) (i : ℕ) : Type 0 where
+  record Edged (q : ℕ) (s : List Entry) (es : List Edge) (i : ℕ) : Type 0 where
     one : Edge
     place : ℕ
     is-led : Led T n p q i one place
     more : Edging q s (one ∷ es) place
 
   -- what stands at i behind a token that led there
-  abbrev After : Option Next → (s : List ℕ) → (es : List Edge) → (i : ℕ) → Type 0
+  abbrev After : Option Next → (s : List Entry) → (es : List Edge) → (i : ℕ) → Type 0
   After (Some (next.To d)) s es i = Stands d s es i
   After (Some (next.List q)) s es i = Naming q (set s q listed) es i
   After (Some (next.Mark q)) s es i = Closing q (set s q accepting) es i
@@ -94,7 +96,7 @@ module _ (T : ℕ → Token) (n p : ℕ) (t : List ℕ) (gs : List Edge) where
 
   -- ---- each token adds its part
 
-  module _ (s : List ℕ) (es : List Edge) (i : ℕ) where
+  module _ (s : List Entry) (es : List Edge) (i : ℕ) where
     abbrev Behind : Option Next → Type 0
     Behind m = After m s es (T i).next
 
@@ -115,7 +117,7 @@ module _ (T : ℕ → Token) (n p : ℕ) (t : List ℕ) (gs : List Edge) where
       abbrev g : ℕ
       g = (T (T i).next).next
 
-      blocked : {f m e : ℕ} → Name T g f → Marks T f m e → Edging q (set s q m) es e → Rest s es i
+      blocked : {f e : ℕ} {m : Entry} → Name T g f → Marks T f m e → Edging q (set s q m) es e → Rest s es i
       blocked nm ms a =
           let r = a.rest in
           record { after_blocks = r.after_blocks; after-end = r.after-end; blocks = block (x, refl) (l.number, refl) l.low l.new nm ms a.run r.blocks; end = r.end; nothing = r.nothing }
@@ -124,7 +126,7 @@ module _ (T : ℕ → Token) (n p : ℕ) (t : List ℕ) (gs : List Edge) where
       signing-blocks nm (unsigned a) = blocked nm no_marks a
       signing-blocks nm (signed e (closed c)) = blocked nm (empty (e, refl) (c.0, refl)) c.1
       signing-blocks {f = f} nm (signed e (zero z c)) =
-          blocked nm (marked (e, refl) z (c.0, refl)) (subst (λ (u : List ℕ). Edging q u es (T (T (T f).next).next).next) (set-set s q listed accepting) c.1)
+          blocked nm (marked (e, refl) z (c.0, refl)) (subst (λ (u : List Entry). Edging q u es (T (T (T f).next).next).next) (set-set s q listed accepting) c.1)
 
       naming-blocks : Naming q (set s q listed) es g → Rest s es i
       naming-blocks (unnamed a) = signing-blocks no_name a
@@ -133,7 +135,7 @@ module _ (T : ℕ → Token) (n p : ℕ) (t : List ℕ) (gs : List Edge) where
     -- `--END--` ends the blocks
     ends : (T i).sort ≡ sort.End → Ending s es (T i).next → Rest s es i
     ends e a =
-        let blocks = subst (λ (u : List ℕ). Blocks T n p s es i u gs i) a.sheet (subst (λ (fs : List Edge). Blocks T n p s es i s fs i) a.edges no_block) in
+        let blocks = subst (λ (u : List Entry). Blocks T n p s es i u gs i) a.sheet (subst (λ (fs : List Edge). Blocks T n p s es i s fs i) a.edges no_block) in
         record { after_blocks = i; after-end = (T i).next; blocks = blocks; end = (e, refl); nothing = a.nothing }
 
     block_found : (k : Sort) → (T i).sort ≡ k → Behind (block_next k) → Rest s es i
@@ -167,11 +169,15 @@ module _ (T : ℕ → Token) (n p : ℕ) (t : List ℕ) (gs : List Edge) where
         zero (subst (λ (v : ℕ). (T i).sort ≡ sort.Number v) (eqb-true v 0 m.0) e, refl) m.1
     braces_found q k e a = closed (closed_found q k e a)
 
+    unlisted-told : (x : Entry) → is_unlisted x ≡ true → x ≡ unlisted
+    unlisted-told Unlisted e = refl
+    unlisted-told _ e = absurd (false≢true e)
+
     state_found : (k : Sort) → (T i).sort ≡ k → Behind (state_next n s k) → Listing s es i
     state_found (sort.Number q) e a =
-        let m = met (ltb q n && eqb (get_or s q 0) unlisted) (next.List q) a in
+        let m = met (ltb q n && is_unlisted (get_or s q unlisted)) (next.List q) a in
         let l = both _ _ m.0 in
-        record { state = q; number = e; low = ltb-true _ _ l.0; new = eqb-true _ _ l.1; naming = m.1 }
+        record { state = q; number = e; low = ltb-true _ _ l.0; new = unlisted-told _ l.1; naming = m.1 }
     state_found _ e a = absurd a
 
     over_found : (k : Sort) → (T i).sort ≡ k → Behind (over_next k) → Ending s es i
@@ -194,7 +200,7 @@ module _ (T : ℕ → Token) (n p : ℕ) (t : List ℕ) (gs : List Edge) where
     turned d m e b a = stands_found d (T i).sort refl (subst Behind (sym e) (subst (After (Some m) s es) (sym b) a))
 
   -- along a walk that ends well
-  found : {d : Due} {s : List ℕ} {es : List Edge} {i : ℕ} {o : Outcome} → Walk T n p d s es i o → o ≡ held t gs → Stands d s es i
+  found : {d : Due} {s : List Entry} {es : List Edge} {i : ℕ} {o : Outcome} → Walk T n p d s es i o → o ≡ held t gs → Stands d s es i
   found {d = d} {s = s} {es = es} {i = i} (goes {c = c} e b w) h = turned s es i d (next.To c) e b (found w h)
   found {d = d} {s = s} {es = es} {i = i} (lists {q = q} e b w) h = turned s es i d (next.List q) e b (found w h)
   found {d = d} {s = s} {es = es} {i = i} (marks {q = q} e b w) h = turned s es i d (next.Mark q) e b (found w h)
@@ -204,5 +210,5 @@ module _ (T : ℕ → Token) (n p : ℕ) (t : List ℕ) (gs : List Edge) where
   found (stuck e b) h = let z : ◌≡◌ {A = ℕ} 0 1 = cc in absurd (omega arith)
 
   -- where a block may begin
-  pub rest_found : {s : List ℕ} {es : List Edge} {i : ℕ} → Walk T n p due.Block s es i (held t gs) → Rest s es i
+  pub rest_found : {s : List Entry} {es : List Edge} {i : ℕ} → Walk T n p due.Block s es i (held t gs) → Rest s es i
   rest_found w = found w refl

@@ -6,12 +6,13 @@ use Rattle.automaton.specs.declared.Refusal.TheVariants.{Foreign}
 use Rattle.tokens.specs.declared.Token.{Token}
 use Rattle.tokens.specs.Tokens.{token_from}
 use Rattle.triples.specs.Triples.{most_triples}
+use Rattle.bodies.specs.declared.Entry.{Entry}
 use Rattle.bodies.specs.declared.Due.{Due}
 use Rattle.bodies.specs.declared.Due.TheVariants.{Block, Named, Zero, Edges}
 use Rattle.bodies.specs.declared.Next.{Next}
 use Rattle.bodies.specs.declared.Next.TheVariants as next
 use Rattle.bodies.specs.Adds.{Added}
-use Rattle.bodies.specs.Body.{Edge, blank, listed, accepting}
+use Rattle.bodies.specs.Body.{Edge, blank, listed, accepting, unlisted}
 use Rattle.bodies.specs.Reads.{Shown, Gathered}
 use Rattle.bodies.specs.Stands.{step}
 use Rattle.bodies.specs.Walk.{Outcome, held, refused, Astray, Walk, goes, lists, marks, edge, astray, over, stuck}
@@ -19,24 +20,24 @@ use Rattle.bodies.proofs.On.{Knows, KnowsNext, leads-known}
 use Rattle.bodies.proofs.Shown.{shown-none}
 
 -- `read` began at i, and is at a place where d is due, with this sheet and these marked triples
-pub record Going (text : List ℕ) (n p i : ℕ) (d : Due) (sheet seen : List ℕ) (at : ℕ) : Type 0 where
+pub record Going (text : List ℕ) (n p i : ℕ) (d : Due) (sheet : List Entry) (seen : List ℕ) (at : ℕ) : Type 0 where
   pub edges : List Edge
   pub onward : (o : Outcome) → Walk (token_from text) n p d sheet edges at o → Walk (token_from text) n p Block blank [] i o
   pub shown : Shown n (2 ^ p) edges seen
   pub room : length sheet ≡ 65536
   pub knows : Knows n d
 
-pub going_starts : (text : List ℕ) (n p i : ℕ) (sheet seen : List ℕ) → sheet ≡ blank → seen ≡ replicate most_triples 0 → Going text n p i Block sheet seen i
+pub going_starts : (text : List ℕ) (n p i : ℕ) (sheet : List Entry) (seen : List ℕ) → sheet ≡ blank → seen ≡ replicate most_triples 0 → Going text n p i Block sheet seen i
 going_starts text n p i sheet seen e f =
     record {
       edges = [];
-      onward = λ o w. subst (λ (s : List ℕ). Walk (token_from text) n p Block s [] i o) e w;
+      onward = λ o w. subst (λ (s : List Entry). Walk (token_from text) n p Block s [] i o) e w;
       shown = subst (Shown n (2 ^ p) []) (sym f) (shown-none n (2 ^ p));
-      room = ap length e ∙ length-replicate {A = ℕ} 65536 0;
+      room = ap length e ∙ length-replicate {A = Entry} 65536 unlisted;
       knows = tt;
     }
 
-module _ {text : List ℕ} {n p i : ℕ} {d : Due} {sheet seen : List ℕ} {at : ℕ} (g : Going text n p i d sheet seen at) where
+module _ {text : List ℕ} {n p i : ℕ} {d : Due} {sheet : List Entry} {seen : List ℕ} {at : ℕ} (g : Going text n p i d sheet seen at) where
   abbrev T : ℕ → Token
   T = token_from text
 

@@ -6,11 +6,12 @@ use Rattle.tokens.specs.Sorts.{stands}
 use Rattle.tokens.specs.Tokens.{token_from}
 use Rattle.tokens.proofs.Reach.{token_on, value-most}
 use Rattle.labels.proofs.Reach.{here_on, labelled-on}
+use Rattle.bodies.specs.declared.Entry.{Entry}
 use Rattle.bodies.specs.declared.Due.{Due}
 use Rattle.bodies.specs.declared.Due.TheVariants as due
 use Rattle.bodies.specs.declared.Next.{Next}
 use Rattle.bodies.specs.declared.Next.TheVariants as next
-use Rattle.bodies.specs.Body.{Edge, unlisted}
+use Rattle.bodies.specs.Body.{Edge, unlisted, is_unlisted}
 use Rattle.bodies.specs.Stands.{block_next, edges_next, signed_next, named_next, closed_next, braces_next, step}
 use Rattle.bodies.specs.Walk.{Led, led}
 
@@ -22,21 +23,21 @@ Onward next.Done = ⊥
 Onward _ = Unit
 
 -- what is no token leads nowhere, but that of the end
-at_wrong : (n : ℕ) (d : Due) (s : List ℕ) → step n d s sort.Wrong ≡ None
+at_wrong : (n : ℕ) (d : Due) (s : List Entry) → step n d s sort.Wrong ≡ None
 at_wrong n due.Block s = refl
 at_wrong n _ s = refl
 
-at_nothing : (n : ℕ) (d : Due) (s : List ℕ) {m : Next} → step n d s sort.Nothing ≡ Some m → Onward m → ⊥
+at_nothing : (n : ℕ) (d : Due) (s : List Entry) {m : Next} → step n d s sort.Nothing ≡ Some m → Onward m → ⊥
 at_nothing n due.Nothing s e on = let z : next.Done ≡ _ = cc in subst Onward (sym z) on
 at_nothing n _ s {m} e on = let z : ◌≡◌ {A = Option Next} None (Some m) = e in absurd (cc)
 
 -- what leads on stands in the text
-step_stands : (n : ℕ) (d : Due) (s : List ℕ) (k : Sort) {m : Next} → step n d s k ≡ Some m → Onward m → stands k ≡ true
+step_stands : (n : ℕ) (d : Due) (s : List Entry) (k : Sort) {m : Next} → step n d s k ≡ Some m → Onward m → stands k ≡ true
 step_stands n d s sort.Nothing e on = absurd (at_nothing n d s e on)
 step_stands n d s sort.Wrong {m} e on = let z : ◌≡◌ {A = Option Next} None (Some m) = sym (at_wrong n d s) ∙ e in absurd (cc)
 step_stands n d s _ e on = refl
 
-pub leads-on : (text : List ℕ) (i n : ℕ) (d : Due) (s : List ℕ) (m : Next) → i ≤ length text → step n d s (token_from text i).sort ≡ Some m → Onward m
+pub leads-on : (text : List ℕ) (i n : ℕ) (d : Due) (s : List Entry) (m : Next) → i ≤ length text → step n d s (token_from text i).sort ≡ Some m → Onward m
     → (i < (token_from text i).next) × ((token_from text i).next ≤ length text)
 leads-on text i n d s m l e on = token_on text i l (step_stands n d s (token_from text i).sort e on)
 
@@ -109,15 +110,15 @@ module _ (n : ℕ) where
   listed_knows q true false e l = tt
   listed_knows q false c e l = tt
 
-  state_knows : (s : List ℕ) (k : Sort) → ((v : ℕ) → k ≡ sort.Number v → v < 65536) → KnowsLed n (step n due.State s k)
-  state_knows s (sort.Number q) l = listed_knows q (ltb q n) (eqb (get_or s q 0) unlisted) refl (l q refl)
+  state_knows : (s : List Entry) (k : Sort) → ((v : ℕ) → k ≡ sort.Number v → v < 65536) → KnowsLed n (step n due.State s k)
+  state_knows s (sort.Number q) l = listed_knows q (ltb q n) (is_unlisted (get_or s q unlisted)) refl (l q refl)
   state_knows s _ l = tt
 
-  over_knows : (s : List ℕ) (k : Sort) → KnowsLed n (step n due.Nothing s k)
+  over_knows : (s : List Entry) (k : Sort) → KnowsLed n (step n due.Nothing s k)
   over_knows s sort.Nothing = tt
   over_knows s _ = tt
 
-  step_knows : (d : Due) (s : List ℕ) (k : Sort) → Knows n d → ((v : ℕ) → k ≡ sort.Number v → v < 65536) → KnowsLed n (step n d s k)
+  step_knows : (d : Due) (s : List Entry) (k : Sort) → Knows n d → ((v : ℕ) → k ≡ sort.Number v → v < 65536) → KnowsLed n (step n d s k)
   step_knows due.Block s k h l = block_knows k
   step_knows due.State s k h l = state_knows s k l
   step_knows (due.Named q) s k h l = named_knows q k h
@@ -131,5 +132,5 @@ module _ (n : ℕ) where
 pub number-low : (text : List ℕ) (i v : ℕ) → (token_from text i).sort ≡ sort.Number v → v < 65536
 number-low text i v e = omega (arith, value-most text i e)
 
-pub leads-known : (text : List ℕ) (i n : ℕ) (d : Due) (s : List ℕ) (m : Next) → Knows n d → step n d s (token_from text i).sort ≡ Some m → KnowsNext n m
+pub leads-known : (text : List ℕ) (i n : ℕ) (d : Due) (s : List Entry) (m : Next) → Knows n d → step n d s (token_from text i).sort ≡ Some m → KnowsNext n m
 leads-known text i n d s m k e = subst (KnowsLed n) e (step_knows n d s (token_from text i).sort k (number-low text i))

@@ -6,6 +6,7 @@ use Rattle.tokens.specs.declared.Sort.TheVariants as sort
 use Rattle.tokens.specs.declared.Token.{Token}
 use Rattle.labels.specs.Label.{Label, Labelled}
 use Rattle.labels.proofs.One.{labelled-one, labelled-stands, fails-one}
+use Rattle.bodies.specs.declared.Entry.{Entry}
 use Rattle.bodies.specs.declared.Due.{Due}
 use Rattle.bodies.specs.declared.Due.TheVariants as due
 use Rattle.bodies.specs.declared.Next.{Next}
@@ -53,12 +54,12 @@ module _ (T : ℕ → Token) (n p : ℕ) where
   -- ---- a token
 
   -- what reading comes to behind the `[` of an edge
-  data Edged (q : ℕ) (s : List ℕ) (es : List Edge) (i : ℕ) (o : Outcome) : Type 0 where
+  data Edged (q : ℕ) (s : List Entry) (es : List Edge) (i : ℕ) (o : Outcome) : Type 0 where
     reads : {e : Edge} {j : ℕ} → Led T n p q i e j → Walk T n p (due.Edges q) s (e ∷ es) j o → Edged q s es i o
     fails : {r : Refusal} → Astray T n p i r → refused r ≡ o → Edged q s es i o
 
   -- what reading comes to where a token leads, with j behind it and a its place
-  abbrev After : Option Next → (s : List ℕ) → (es : List Edge) → (j a : ℕ) → Outcome → Type 0
+  abbrev After : Option Next → (s : List Entry) → (es : List Edge) → (j a : ℕ) → Outcome → Type 0
   After (Some (next.To d)) s es j a o = Walk T n p d s es j o
   After (Some (next.List q)) s es j a o = Walk T n p (due.Named q) (set s q listed) es j o
   After (Some (next.Mark q)) s es j a o = Walk T n p (due.Zero q) (set s q accepting) es j o
@@ -67,13 +68,13 @@ module _ (T : ℕ → Token) (n p : ℕ) where
   After None s es j a o = refused (Foreign a) ≡ o
 
   -- the table says where a token leads: to and fro
-  led-to : (d : Due) (s : List ℕ) (es : List Edge) (i : ℕ) (o : Outcome) {j a : ℕ} (m : Option Next) → step n d s (T i).sort ≡ m → (T i).next ≡ j → (T i).at ≡ a → After m s es j a o → After (step n d s (T i).sort) s es (T i).next (T i).at o
+  led-to : (d : Due) (s : List Entry) (es : List Edge) (i : ℕ) (o : Outcome) {j a : ℕ} (m : Option Next) → step n d s (T i).sort ≡ m → (T i).next ≡ j → (T i).at ≡ a → After m s es j a o → After (step n d s (T i).sort) s es (T i).next (T i).at o
   led-to d s es i o m e b c k = subst (λ (m : Option Next). After m s es (T i).next (T i).at o) (sym e) (rw (b, c) k)
 
-  led-by : (d : Due) (s : List ℕ) (es : List Edge) (i : ℕ) (o : Outcome) {j a : ℕ} (m : Option Next) → step n d s (T i).sort ≡ m → (T i).next ≡ j → (T i).at ≡ a → After (step n d s (T i).sort) s es (T i).next (T i).at o → After m s es j a o
+  led-by : (d : Due) (s : List Entry) (es : List Edge) (i : ℕ) (o : Outcome) {j a : ℕ} (m : Option Next) → step n d s (T i).sort ≡ m → (T i).next ≡ j → (T i).at ≡ a → After (step n d s (T i).sort) s es (T i).next (T i).at o → After m s es j a o
   led-by d s es i o m e b c k = rw (← b, ← c) (subst (λ (m : Option Next). After m s es (T i).next (T i).at o) e k)
 
-  after : {d : Due} {s : List ℕ} {es : List Edge} {i : ℕ} {o : Outcome} → Walk T n p d s es i o → After (step n d s (T i).sort) s es (T i).next (T i).at o
+  after : {d : Due} {s : List Entry} {es : List Edge} {i : ℕ} {o : Outcome} → Walk T n p d s es i o → After (step n d s (T i).sort) s es (T i).next (T i).at o
   after {d} {s} {es} {i} {o} (goes {c = c} e b k) = led-to d s es i o (Some (next.To c)) e b refl k
   after {d} {s} {es} {i} {o} (lists {q = q} e b k) = led-to d s es i o (Some (next.List q)) e b refl k
   after {d} {s} {es} {i} {o} (marks {q = q} e b k) = led-to d s es i o (Some (next.Mark q)) e b refl k
@@ -84,17 +85,17 @@ module _ (T : ℕ → Token) (n p : ℕ) where
 
   -- ---- the whole
 
-  joined : {q i j : ℕ} {s : List ℕ} {es : List Edge} {e : Edge} {o : Outcome} → Led T n p q i e j → Edged q s es i o → Walk T n p (due.Edges q) s (e ∷ es) j o
+  joined : {q i j : ℕ} {s : List Entry} {es : List Edge} {e : Edge} {o : Outcome} → Led T n p q i e j → Edged q s es i o → Walk T n p (due.Edges q) s (e ∷ es) j o
   joined {q} {i} {j} {s} {es} {e} {o} x (reads {j = h} y k) =
       let a = led-one y x in
       subst (λ (h : ℕ). Walk T n p (due.Edges q) s (e ∷ es) h o) a.1 (subst (λ (f : Edge). Walk T n p (due.Edges q) s (f ∷ es) h o) a.0 k)
   joined x (fails y e) = absurd (led-stands x y)
 
-  strayed : {q i : ℕ} {s : List ℕ} {es : List Edge} {r : Refusal} {o : Outcome} → Astray T n p i r → Edged q s es i o → refused r ≡ o
+  strayed : {q i : ℕ} {s : List Entry} {es : List Edge} {r : Refusal} {o : Outcome} → Astray T n p i r → Edged q s es i o → refused r ≡ o
   strayed x (reads y k) = absurd (led-stands y x)
   strayed x (fails y e) = ap refused (astray-one x y) ∙ e
 
-  pub walk_one : {d : Due} {s : List ℕ} {es : List Edge} {i : ℕ} {o u : Outcome} → Walk T n p d s es i o → Walk T n p d s es i u → o ≡ u
+  pub walk_one : {d : Due} {s : List Entry} {es : List Edge} {i : ℕ} {o u : Outcome} → Walk T n p d s es i o → Walk T n p d s es i u → o ≡ u
   walk_one {d} {s} {es} {i} {o} {u} (goes {c = c} e b k) l = walk_one k (led-by d s es i u (Some (next.To c)) e b refl (after l))
   walk_one {d} {s} {es} {i} {o} {u} (lists {q = q} e b k) l = walk_one k (led-by d s es i u (Some (next.List q)) e b refl (after l))
   walk_one {d} {s} {es} {i} {o} {u} (marks {q = q} e b k) l = walk_one k (led-by d s es i u (Some (next.Mark q)) e b refl (after l))

@@ -1,42 +1,39 @@
 -- What was read is sound: the sheet lists states below n alone, and the edges lead between such states.
-use Rattle.std.proofs.Common.{◌≡◌, refl, ◌∙◌, Bool, true, false, ◌&&◌, ◌||◌, List, [], ◌∷◌, ℕ, zero, suc, ◌≤◌, ◌<◌, arith, eqb-true, eqb, get_or, set, length-set, get_or-set_other}
+use Rattle.std.proofs.Common.{◌≡◌, refl, ◌∙◌, Bool, true, false, ◌&&◌, ◌||◌, List, [], ◌∷◌, ℕ, zero, suc, ◌<◌, arith, eqb-true, eqb, get_or, replicate, set, length-set, get_or-set_other}
 use Rattle.std.proofs.Math.Bool.{false≢true}
 use Rattle.std.proofs.Math.ListN.{length-replicate}
-use Rattle.games.proofs.Lift.{cleared_at}
 use Rattle.tokens.specs.Tokens.{token_from}
 use Rattle.labels.specs.Label.{holds}
+use Rattle.bodies.specs.declared.Entry.{Entry}
 use Rattle.bodies.specs.declared.Due.{Due}
 use Rattle.bodies.specs.declared.Due.TheVariants.{Block}
 use Rattle.bodies.specs.declared.Next.TheVariants as next
-use Rattle.bodies.specs.Body.{Edge, blank, leads, listed, accepting}
+use Rattle.bodies.specs.Body.{Edge, blank, leads, listed, accepting, unlisted}
 use Rattle.bodies.specs.Sound.{Inside, Sound}
 use Rattle.bodies.specs.Walk.{Outcome, held, refused, Led, led, Walk, goes, lists, marks, edge, astray, over, stuck}
 use Rattle.bodies.proofs.On.{Known, Knows, leads-known}
 
--- an entry of a list that was written to is the new one or the old one
-written : (P : ℕ → Type 0) (l : List ℕ) (i v k : ℕ) → P v → P (get_or l k 0) → P (get_or (set l i v) k 0)
-written P [] i v k a b = b
-written P (x ∷ xs) zero v zero a b = a
-written P (x ∷ xs) zero v (suc k) a b = b
-written P (x ∷ xs) (suc i) v zero a b = b
-written P (x ∷ xs) (suc i) v (suc k) a b = written P xs i v k a b
+-- an entry of a blank sheet
+get_or-blank : (c q : ℕ) → get_or (replicate c unlisted) q unlisted ≡ unlisted
+get_or-blank zero q = refl
+get_or-blank (suc c) zero = refl
+get_or-blank (suc c) (suc q) = get_or-blank c q
 
 blank_sound : (n : ℕ) → Sound n blank []
 unfolding Inside
-blank_sound n = record { long = length-replicate {A = ℕ} 65536 0; low = λ q. omega (arith, cleared_at 65536 q); beyond = λ q l. cleared_at 65536 q; inside = tt }
+blank_sound n = record { long = length-replicate {A = Entry} 65536 unlisted; beyond = λ q l. get_or-blank 65536 q; inside = tt }
 
-module _ {n : ℕ} {s : List ℕ} {es : List Edge} where
-  entry_sound : (q v : ℕ) → Known n q → v ≤ accepting → Sound n s es → Sound n (set s q v) es
-  entry_sound q v known l a = record {
+module _ {n : ℕ} {s : List Entry} {es : List Edge} where
+  entry_sound : (q : ℕ) (v : Entry) → Known n q → Sound n s es → Sound n (set s q v) es
+  entry_sound q v known a = record {
     long = length-set s q v ∙ a.long;
-    low = λ k. written (λ y. y ≤ accepting) s q v k l (a.low k);
-    beyond = λ k b. get_or-set_other s q k v 0 (λ e. omega (arith, known.0)) ∙ a.beyond k b;
+    beyond = λ k b. get_or-set_other s q k v unlisted (λ e. omega (arith, known.0)) ∙ a.beyond k b;
     inside = a.inside;
   }
 
   edge_sound : {T : ℕ → _} {p q i j : ℕ} {e : Edge} → Known n q → Led T n p q i e j → Sound n s es → Sound n s (e ∷ es)
   unfolding Inside
-  edge_sound known (led l x r) a = record { long = a.long; low = a.low; beyond = a.beyond; inside = (known.0, r, a.inside) }
+  edge_sound known (led l x r) a = record { long = a.long; beyond = a.beyond; inside = (known.0, r, a.inside) }
 
 -- what an outcome holds is sound
 abbrev Fine : (n : ℕ) → Outcome → Type 0
@@ -44,16 +41,16 @@ Fine n (held t es) = Sound n t es
 Fine n (refused r) = Unit
 
 module _ (text : List ℕ) {n p : ℕ} where
-  walk_sound : {d : Due} {s : List ℕ} {es : List Edge} {i : ℕ} {o : Outcome} → Walk (token_from text) n p d s es i o → Knows n d → Sound n s es → Fine n o
+  walk_sound : {d : Due} {s : List Entry} {es : List Edge} {i : ℕ} {o : Outcome} → Walk (token_from text) n p d s es i o → Knows n d → Sound n s es → Fine n o
   walk_sound {d} {s} {es} {i} (goes {c = c} e b w) k a = walk_sound w (leads-known text i n d _ (next.To c) k e) a
-  walk_sound {d} {s} {es} {i} (lists {q = q} e b w) k a = let q-known = leads-known text i n d _ (next.List q) k e in walk_sound w q-known (entry_sound q listed q-known (omega arith) a)
-  walk_sound {d} {s} {es} {i} (marks {q = q} e b w) k a = let q-known = leads-known text i n d _ (next.Mark q) k e in walk_sound w q-known (entry_sound q accepting q-known (omega arith) a)
+  walk_sound {d} {s} {es} {i} (lists {q = q} e b w) k a = let q-known = leads-known text i n d _ (next.List q) k e in walk_sound w q-known (entry_sound q listed q-known a)
+  walk_sound {d} {s} {es} {i} (marks {q = q} e b w) k a = let q-known = leads-known text i n d _ (next.Mark q) k e in walk_sound w q-known (entry_sound q accepting q-known a)
   walk_sound {d} {s} {es} {i} (edge {q = q} e b x w) k a = let q-known = leads-known text i n d _ (next.Edge q) k e in walk_sound w q-known (edge_sound q-known x a)
   walk_sound (astray e b x) k a = tt
   walk_sound (over e) k a = a
   walk_sound (stuck e b) k a = tt
 
-  pub held_sound : {i : ℕ} {sheet : List ℕ} {es : List Edge} → Walk (token_from text) n p Block blank [] i (held sheet es) → Sound n sheet es
+  pub held_sound : {i : ℕ} {sheet : List Entry} {es : List Edge} → Walk (token_from text) n p Block blank [] i (held sheet es) → Sound n sheet es
   held_sound w = walk_sound w tt (blank_sound n)
 
 -- so a move leads from one of n states to one of them

@@ -1,8 +1,10 @@
 -- The body of a Hanoi file as the format writes it: blocks of a state and its edges, then `--END--` and nothing more.
-use Rattle.std.specs.Prelude.{◌≡◌, Bool, false, ◌&&◌, ◌||◌, List, [], ◌∷◌, ℕ, ◌<◌, eqb, get_or, replicate, set}
+use Rattle.std.specs.Prelude.{◌≡◌, Bool, true, false, ◌&&◌, ◌||◌, List, [], ◌∷◌, ℕ, ◌<◌, eqb, get_or, replicate, set}
 use Rattle.tokens.specs.declared.Token.{Token}
 use Rattle.tokens.specs.Here.{Here, Number}
 use Rattle.tokens.specs.declared.Sort.TheVariants as sort
+use Rattle.bodies.specs.declared.Entry.{Entry}
+use Rattle.bodies.specs.declared.Entry.TheVariants.{Unlisted, Listed, Accepting}
 use Rattle.labels.specs.Label.{Label, holds, Labelled}
 
 -- ---- what a body says
@@ -21,18 +23,26 @@ unfoldable pub leads : List Edge → (q a r : ℕ) → Bool
 leads [] q a r = false
 leads (e ∷ es) q a r = leads_by e q a r || leads es q a r
 
--- The sheet has an entry for each number that a state can have: 0 for one that is not listed, 1 for one that is, 2 for one that is listed with the mark `{0}`.
-abbrev pub unlisted : ℕ
-unlisted = 0
+-- The sheet has an entry for each number that a state can have: for one that is not listed, one that is, and one that is listed with the mark `{0}`.
+abbrev pub unlisted : Entry
+unlisted = Unlisted
 
-abbrev pub listed : ℕ
-listed = 1
+abbrev pub listed : Entry
+listed = Listed
 
-abbrev pub accepting : ℕ
-accepting = 2
+abbrev pub accepting : Entry
+accepting = Accepting
+
+abbrev pub is_unlisted : Entry → Bool
+is_unlisted Unlisted = true
+is_unlisted _ = false
+
+abbrev pub is_accepting : Entry → Bool
+is_accepting Accepting = true
+is_accepting _ = false
 
 -- the sheet of a body that has said nothing yet
-abbrev pub blank : List ℕ
+abbrev pub blank : List Entry
 blank = replicate 65536 unlisted
 
 -- ---- how it is written: with n states and p propositions
@@ -44,7 +54,7 @@ module _ (T : ℕ → Token) where
     name : {i j : ℕ} → Here T i sort.Quoted j → Name i j
 
   -- "marks on states only, `{0}` or `{}`": from i to j, with what the sheet then says
-  pub data Marks : (i entry j : ℕ) → Type 0 where
+  pub data Marks : (i : ℕ) → Entry → (j : ℕ) → Type 0 where
     no_marks : {i : ℕ} → Marks i listed i
     empty : {i h j : ℕ} → Here T i sort.Marks h → Here T h sort.MarksEnd j → Marks i listed j
     marked : {i h g j : ℕ} → Here T i sort.Marks h → Number T h 0 g → Here T g sort.MarksEnd j → Marks i accepting j
@@ -61,15 +71,15 @@ module _ (T : ℕ → Token) where
       edges : {es fs : List Edge} {e : Edge} {i h j : ℕ} → IsEdge q i e h → Edges q (e ∷ es) h fs j → Edges q es i fs j
 
     -- Blocks from i to j, with the sheet and the edges before and after them. A state is below n and listed once.
-    pub data Blocks : (sheet : List ℕ) → (before : List Edge) → (i : ℕ) → (sheet' : List ℕ) → (after : List Edge) → (j : ℕ) → Type 0 where
-      no_block : {s : List ℕ} {es : List Edge} {i : ℕ} → Blocks s es i s es i
-      block : {s t : List ℕ} {es fs gs : List Edge} {i h g f e d j q m : ℕ}
-          → Here T i sort.State h → Number T h q g → q < n → get_or s q 0 ≡ unlisted
+    pub data Blocks : (sheet : List Entry) → (before : List Edge) → (i : ℕ) → (sheet' : List Entry) → (after : List Edge) → (j : ℕ) → Type 0 where
+      no_block : {s : List Entry} {es : List Edge} {i : ℕ} → Blocks s es i s es i
+      block : {s t : List Entry} {es fs gs : List Edge} {i h g f e d j q : ℕ} {m : Entry}
+          → Here T i sort.State h → Number T h q g → q < n → get_or s q unlisted ≡ unlisted
           → Name g f → Marks f m e → Edges q es e fs d
           → Blocks (set s q m) fs d t gs j → Blocks s es i t gs j
 
     -- The whole body from i on: it leaves a sheet and edges.
-    pub record IsBody (i : ℕ) (sheet : List ℕ) (es : List Edge) : Type 0 where
+    pub record IsBody (i : ℕ) (sheet : List Entry) (es : List Edge) : Type 0 where
       pub after_blocks : ℕ
       pub after-end : ℕ
       pub blocks : Blocks blank [] i sheet es after_blocks

@@ -2,11 +2,12 @@
 use Rattle.std.specs.Prelude.{cond, ◌&&◌, List, ℕ, eqb, ltb, get_or, Option, Some, None}
 use Rattle.tokens.specs.declared.Sort.{Sort}
 use Rattle.tokens.specs.declared.Sort.TheVariants as sort
+use Rattle.bodies.specs.declared.Entry.{Entry}
 use Rattle.bodies.specs.declared.Due.{Due}
 use Rattle.bodies.specs.declared.Due.TheVariants as due
 use Rattle.bodies.specs.declared.Next.{Next}
 use Rattle.bodies.specs.declared.Next.TheVariants as next
-use Rattle.bodies.specs.Body.{unlisted}
+use Rattle.bodies.specs.Body.{unlisted, is_unlisted}
 
 -- where d is due next
 abbrev pub onto : Due → Option Next
@@ -44,8 +45,8 @@ braces_next q (sort.Number v) = cond (eqb v 0) (Some (next.Mark q)) None
 braces_next q k = closed_next q k
 
 -- the number of a state below n that the sheet does not list
-abbrev pub state_next : (n : ℕ) → (sheet : List ℕ) → Sort → Option Next
-state_next n s (sort.Number q) = cond (ltb q n && eqb (get_or s q 0) unlisted) (Some (next.List q)) None
+abbrev pub state_next : (n : ℕ) → (sheet : List Entry) → Sort → Option Next
+state_next n s (sort.Number q) = cond (ltb q n && is_unlisted (get_or s q unlisted)) (Some (next.List q)) None
 state_next n s _ = None
 
 -- nothing more
@@ -54,7 +55,7 @@ over_next sort.Nothing = Some next.Done
 over_next _ = None
 
 -- n states
-abbrev pub step : (n : ℕ) → Due → (sheet : List ℕ) → Sort → Option Next
+abbrev pub step : (n : ℕ) → Due → (sheet : List Entry) → Sort → Option Next
 step n due.Block s k = block_next k
 step n due.State s k = state_next n s k
 step n (due.Named q) s k = named_next q k

@@ -37,12 +37,13 @@ pub enum Next {
     Done,
 }
 
-// What the sheet says of a state: not listed, listed, listed with a mark.
-pub const UNLISTED: u8 = 0;
-
-pub const LISTED: u8 = 1;
-
-pub const ACCEPTING: u8 = 2;
+// What the sheet says of a state: not listed, listed, listed with the mark `{0}`.
+#[derive(Clone, Copy, PartialEq, Eq)]
+pub enum Entry {
+    Unlisted,
+    Listed,
+    Accepting,
+}
 
 // The numbers that a state can have in a file.
 pub const NUMBERS: usize = 65536;
@@ -53,7 +54,7 @@ pub fn read(
     from: usize,
     states: usize,
     props: usize,
-    sheet: &mut [u8],
+    sheet: &mut [Entry],
     seen: &mut [u8],
 ) -> Result<(), Refusal>
     requires from_in_bounds { from ≤ length text.now }
@@ -71,12 +72,12 @@ pub fn read(
                 at = x.next;
             }
             Some(Next::List(q)) => {
-                sheet[q] = LISTED;
+                sheet[q] = Entry::Listed;
                 due = Due::Named(q);
                 at = x.next;
             }
             Some(Next::Mark(q)) => {
-                sheet[q] = ACCEPTING;
+                sheet[q] = Entry::Accepting;
                 due = Due::Zero(q);
                 at = x.next;
             }
@@ -129,13 +130,15 @@ pub fn letters_of(props: usize) -> usize
 }
 
 // What a token of a sort leads to.
-fn step(states: usize, due: Due, sheet: &[u8], sort: Sort) -> Option<Next>
+fn step(states: usize, due: Due, sheet: &[Entry], sort: Sort) -> Option<Next>
     requires sheet_len { length sheet.now ≡ 65536 }
     requires number_has_entry { (v : ℕ) → sort ≡ Number v → v < 65536 }
     ensures { result ≡ step_of states due sheet.now sort }
 {
     match (due, sort) {
-        (Due::State, Sort::Number(q)) if q < states && sheet[q] == UNLISTED => Some(Next::List(q)),
+        (Due::State, Sort::Number(q)) if q < states && sheet[q] == Entry::Unlisted => {
+            Some(Next::List(q))
+        }
         (Due::Named(q), Sort::Quoted) => Some(Next::To(Due::Signed(q))),
         (Due::Named(q) | Due::Signed(q), Sort::Marks) => Some(Next::To(Due::Braces(q))),
         (Due::Braces(q), Sort::Number(0)) => Some(Next::Mark(q)),

@@ -1,5 +1,5 @@
 -- The automaton of a file: it is well formed, its marks are those of the sheet, and its moves are exactly those that an edge leads along, strictly ascending.
-use Rattle.std.proofs.Common.{◌≡◌, refl, sym, ap, subst, ◌∙◌, ◌↔◌, Bool, true, ℕ, ◌+◌, ◌*◌, ◌/◌, ◌%◌, ◌≤◌, ◌<◌, zero-add, mul-le-mul, arith, eqb-true, eq-eqb, eqb, length, get_or}
+use Rattle.std.proofs.Common.{◌≡◌, refl, sym, ap, subst, ◌∙◌, ◌↔◌, Bool, true, ℕ, ◌+◌, ◌*◌, ◌/◌, ◌%◌, ◌≤◌, ◌<◌, zero-add, mul-le-mul, arith, length, get_or, true≢false}
 use mathlib.Core.Logic.Iff
 use Rattle.std.proofs.Math.Nat.{one-le-pow, pow-le-pow_right}
 use Rattle.games.proofs.Count.{count_most}
@@ -12,10 +12,16 @@ use Rattle.simulation.proofs.Listed.{map_at, listed_length, bit-most, bit-one}
 use Rattle.laws.proofs.Triples.{having, listed-long}
 use Rattle.laws.proofs.Numbered.{Reads, number_lt, number_read, triple-inside, numbered_ascend, numbered_is}
 use Rattle.headers.specs.Header.{most_props}
-use Rattle.bodies.specs.Body.{leads, accepting}
+use Rattle.bodies.specs.declared.Entry.{Entry}
+use Rattle.bodies.specs.declared.Entry.TheVariants.{Accepting}
+use Rattle.bodies.specs.Body.{leads, unlisted, accepting, is_accepting}
 use Rattle.text.specs.Text.{program_states, program_letters}
 use Rattle.hanoi.specs.File.{File, letters_in, marks_in, moves_in, board_in}
 use Rattle.hanoi.proofs.Edges.{LeadsOne, leads-edge}
+
+accepting-told : (x : Entry) → is_accepting x ≡ true → x ≡ accepting
+accepting-told Accepting e = refl
+accepting-told _ e = absurd (true≢false (sym e))
 
 module _ (f : File) where
   -- how many triples of states and a letter there are
@@ -43,17 +49,17 @@ module _ (f : File) where
   -- ---- marks
 
   abbrev mark : (q : ℕ) → ℕ
-  mark q = bit (eqb (get_or f.sheet q 0) accepting)
+  mark q = bit (is_accepting (get_or f.sheet q unlisted))
 
   mark-at : (q : ℕ) → q < f.header.states → get_or (marks_in f) q 0 ≡ mark q
   mark-at q l = map_at mark 0 f.header.states q l ∙ ap mark (zero-add q)
 
   -- "marks on states only": 1 exactly for a state that is listed with the mark `{0}`
-  pub marks_exact : (q : ℕ) → q < f.header.states → (get_or (marks_in f) q 0 ≡ 1) ↔ (get_or f.sheet q 0 ≡ accepting)
+  pub marks_exact : (q : ℕ) → q < f.header.states → (get_or (marks_in f) q 0 ≡ 1) ↔ (get_or f.sheet q unlisted ≡ accepting)
   marks_exact q l =
-      let entry = get_or f.sheet q 0 in
-      let one = bit-one (eqb entry accepting) in
-      (λ e. eqb-true entry accepting (one.0 (sym (mark-at q l) ∙ e)), λ e. mark-at q l ∙ one.1 (eq-eqb entry accepting e))
+      let entry = get_or f.sheet q unlisted in
+      let one = bit-one (is_accepting entry) in
+      (λ e. accepting-told entry (one.0 (sym (mark-at q l) ∙ e)), λ e. mark-at q l ∙ one.1 (ap is_accepting e))
 
   -- ---- moves
 
@@ -99,7 +105,7 @@ module _ (f : File) where
       letters = letters-some;
       few_letters = letters-few few-props;
       marked = listed_length mark 0 f.header.states;
-      binary = λ q l. subst (λ (v : ℕ). v ≤ 1) (sym (mark-at q l)) (bit-most (eqb (get_or f.sheet q 0) accepting));
+      binary = λ q l. subst (λ (v : ℕ). v ≤ 1) (sym (mark-at q l)) (bit-most (is_accepting (get_or f.sheet q unlisted)));
       whole = omega (arith, moves_long);
       inside = λ i l. ((moves_exact (from (moves_in f) i) (letter (moves_in f) i) (to (moves_in f) i)).0 (i, l, refl, refl, refl)).0;
       order = numbered_ascend f.header.states (letters_in f) led triples some letters-some;

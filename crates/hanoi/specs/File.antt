@@ -1,5 +1,5 @@
 -- A Hanoi file: what it is, and the automaton that it gives.
-use Rattle.std.specs.Prelude.{cond, List, [], map, ℕ, ◌*◌, ◌/◌, ◌%◌, ◌^◌, eqb, get_or}
+use Rattle.std.specs.Prelude.{cond, List, [], map, ℕ, ◌*◌, ◌/◌, ◌%◌, ◌^◌, get_or}
 use Rattle.games.specs.Settle.{ascending}
 use Rattle.automaton.specs.declared.Automaton.{Automaton}
 use Rattle.automaton.specs.Board.{Board, board_of}
@@ -8,14 +8,15 @@ use Rattle.simulation.specs.Quotient.{triple_by, in_turn}
 use Rattle.tokens.specs.declared.Token.{Token}
 use Rattle.headers.specs.declared.Header.{Header}
 use Rattle.headers.specs.Header.{IsHeader}
-use Rattle.bodies.specs.Body.{Edge, leads, accepting, IsBody}
+use Rattle.bodies.specs.declared.Entry.{Entry}
+use Rattle.bodies.specs.Body.{Edge, leads, unlisted, is_accepting, IsBody}
 
 -- ---- what is read
 
 -- what a file says: its header, what the sheet has of each state, and the edges
 pub record File : Type 0 where
   pub header : Header
-  pub sheet : List ℕ
+  pub sheet : List Entry
   pub edges : List Edge
 
 -- T gives the token at or after a place: they are those of a header and of a body behind it.
@@ -35,7 +36,7 @@ automaton_in f = record { states = f.header.states; letters = letters_in f; star
 
 -- "marks on states only": 1 for a state that is listed with the mark `{0}`
 abbrev pub marks_in : File → List ℕ
-marks_in f = map (λ q. bit (eqb (get_or f.sheet q 0) accepting)) (ascending 0 f.header.states)
+marks_in f = map (λ q. bit (is_accepting (get_or f.sheet q unlisted))) (ascending 0 f.header.states)
 
 -- "The moves read are exactly those whose letter makes the label true, sorted, each once."
 abbrev pub moves_in : File → List ℕ

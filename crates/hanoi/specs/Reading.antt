@@ -6,6 +6,7 @@ use Rattle.headers.specs.declared.Header.{Header}
 use Rattle.headers.specs.declared.Wanted.TheVariants.{Format}
 use Rattle.headers.specs.Header.{unsaid}
 use Rattle.headers.specs.Walk as header
+use Rattle.bodies.specs.declared.Entry.{Entry}
 use Rattle.bodies.specs.declared.Due.TheVariants.{Block}
 use Rattle.bodies.specs.Body.{Edge, blank}
 use Rattle.bodies.specs.Walk as body
@@ -23,7 +24,7 @@ pub data Comes (T : ℕ → Token) : Outcome → Type 0 where
       → header.Walk T Format unsaid 0 (header.held h j)
       → body.Walk T h.states h.props Block blank [] j (body.refused r)
       → Comes T (refused r)
-  to_end : {h : Header} {j : ℕ} {sheet : List ℕ} {es : List Edge}
+  to_end : {h : Header} {j : ℕ} {sheet : List Entry} {es : List Edge}
       → header.Walk T Format unsaid 0 (header.held h j)
       → body.Walk T h.states h.props Block blank [] j (body.held sheet es)
       → Comes T (whole (record { header = h; sheet = sheet; edges = es }))

@@ -1,6 +1,6 @@
 -- What `write` and `finish` answer and leave, from the sheet of a body and the triples that were marked.
 -- The functions of this crate promise it to each other; no public promise cites it.
-use Rattle.std.specs.Prelude.{◌||◌, List, [], ◌∷◌, map, ℕ, ◌*◌, ◌/◌, eqb, ltb, length, get_or}
+use Rattle.std.specs.Prelude.{◌||◌, List, [], ◌∷◌, map, ℕ, ◌*◌, ◌/◌, ltb, length, get_or}
 use Rattle.games.specs.Settle.{ascending}
 use Rattle.automaton.specs.declared.Automaton.{Automaton}
 use Rattle.automaton.specs.declared.Refusal.TheVariants.{OutputLength}
@@ -8,17 +8,18 @@ use Rattle.automaton.specs.Answer.{Fault, fails, first_fault}
 use Rattle.automaton.specs.Effect.{Effect, does}
 use Rattle.simulation.specs.Rules.{bit}
 use Rattle.triples.specs.Triples.{triples_in}
-use Rattle.bodies.specs.Body.{accepting}
+use Rattle.bodies.specs.declared.Entry.{Entry}
+use Rattle.bodies.specs.Body.{unlisted, is_accepting}
 use Rattle.text.specs.Calls.{Lent, before}
 use Rattle.hanoi.specs.declared.Limits.{Limits}
 use Rattle.hanoi.specs.Answers.{of_reading}
 use Rattle.hanoi.specs.Calls.{faults_of}
 
 -- the mark of a state, and those of n states
-abbrev pub mark_of : (sheet : List ℕ) → (q : ℕ) → ℕ
-mark_of sheet q = bit (eqb (get_or sheet q 0) accepting)
+abbrev pub mark_of : (sheet : List Entry) → (q : ℕ) → ℕ
+mark_of sheet q = bit (is_accepting (get_or sheet q unlisted))
 
-abbrev pub marks_of : (sheet : List ℕ) → (n : ℕ) → List ℕ
+abbrev pub marks_of : (sheet : List Entry) → (n : ℕ) → List ℕ
 marks_of sheet n = map (mark_of sheet) (ascending 0 n)
 
 -- the marked triples in turn

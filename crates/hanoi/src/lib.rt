@@ -2,7 +2,7 @@
 // The header and the body are each read in one pass; nothing is written before the last refusal is ruled out.
 #![tactic(auto)]
 
-ghost use Rattle.std.specs.Prelude.{◌≡◌, Ok, ◌≤◌, ◌<◌, length, eqb};
+ghost use Rattle.std.specs.Prelude.{◌≡◌, Ok, ◌≤◌, ◌<◌, length};
 ghost use Rattle.automaton.specs.Answer.{accepted, answered, done, first_fault, unless};
 ghost use Rattle.automaton.specs.Limits.{most_letters, most_states};
 ghost use Rattle.simulation.specs.Rules.{bit};
@@ -11,13 +11,14 @@ ghost use Rattle.headers.specs.declared.Wanted.TheVariants.{Format};
 ghost use Rattle.headers.specs.Header.{unsaid};
 ghost use Rattle.headers.specs.Walk.{Walk};
 ghost use Rattle.triples.specs.Triples.{most_triples};
-ghost use Rattle.bodies.specs.Body.{accepting};
+ghost use Rattle.bodies.specs.Body.{is_accepting};
 ghost use Rattle.text.specs.Calls.{lent_of};
 ghost use Rattle.hanoi.specs.Answers.{of_reading};
 ghost use Rattle.hanoi.specs.Calls.{faults_of, Reads};
 ghost use Rattle.hanoi.specs.Writing.{finishing, marks_of, moves_of, writing};
 
 use automaton::{Automaton, Refusal};
+use bodies::Entry;
 use headers::{Headed, Header};
 
 // What `read` gives: the automaton and the number of its moves.
@@ -69,7 +70,7 @@ fn read_body(
         start,
         props,
     } = headed.header;
-    let mut sheet = [bodies::UNLISTED; bodies::NUMBERS];
+    let mut sheet = [Entry::Unlisted; bodies::NUMBERS];
     let mut seen = [0u8; triples::TRIPLES];
     bodies::read(
         text,
@@ -91,7 +92,7 @@ fn read_body(
 fn finish(
     a: Automaton,
     limits: Limits,
-    sheet: &[u8],
+    sheet: &[Entry],
     seen: &[u8],
     marks: &mut [u8],
     moves: &mut [u8],
@@ -126,7 +127,7 @@ fn judge(a: Automaton, limits: Limits) -> Result<(), Refusal>
 // Writes the marks and the moves, if there is room for them.
 fn write(
     a: Automaton,
-    sheet: &[u8],
+    sheet: &[Entry],
     seen: &[u8],
     marks: &mut [u8],
     moves: &mut [u8],
@@ -154,7 +155,7 @@ fn write(
 }
 
 // Marks with 1 the states that the sheet has as accepting, and the others with 0.
-fn fill_marks(sheet: &[u8], marks: &mut [u8])
+fn fill_marks(sheet: &[Entry], marks: &mut [u8])
     requires { length marks.old ≤ length sheet.now }
     ensures { marks.new ≡ marks_of sheet.now (length marks.old) }
 {
@@ -164,8 +165,8 @@ fn fill_marks(sheet: &[u8], marks: &mut [u8])
 }
 
 // The mark of a state.
-fn mark_of(entry: u8) -> u8
-    ensures { result ≡ bit (eqb entry accepting) }
+fn mark_of(entry: Entry) -> u8
+    ensures { result ≡ bit (is_accepting entry) }
 {
-    u8::from(entry == bodies::ACCEPTING)
+    u8::from(entry == Entry::Accepting)
 }

@@ -58,10 +58,3 @@ is-same {a} e = subst (λ (b : Sort). is a b ≡ true) e (is-self a)
 
 pub is-false : (a b : Sort) → is a b ≡ false → a ≡ b → ⊥
 is-false a b f e = true≢false (sym (is-same e) ∙ f)
-
-pub is-other : (a b : Sort) → (a ≡ b → ⊥) → is a b ≡ false
-is-other a b n = tells (is a b) refl
-  where
-    tells : (t : Bool) → is a b ≡ t → is a b ≡ false
-    tells true e = absurd (n (is-true a b e))
-    tells false e = e

@@ -3,6 +3,7 @@ use Rattle.std.proofs.Common.{◌≡◌, sym, ap, ◌∙◌, List, ℕ, ◌≤�
 use Rattle.std.proofs.lemmas.Result.{err_from_is_err_and}
 use Rattle.tokens.specs.declared.Token.{Token}
 use Rattle.tokens.specs.Tokens.{token_from}
+use Rattle.bodies.specs.declared.Entry.{Entry}
 use Rattle.bodies.specs.declared.Due.{Due}
 use Rattle.bodies.specs.declared.Next.{Next}
 use Rattle.bodies.specs.Stands.{step}
@@ -11,11 +12,11 @@ use Rattle.bodies.proofs.On.{Onward, leads-on, led_on, number-low}
 use Rattle.bodies.proofs.read.Goals as goal
 
 -- what `step` answered of the token that was read, by what the definition says
-stepped : (text : List ℕ) (i n : ℕ) (d : Due) (s : List ℕ) {x : Token} {m : Option Next} → x ≡ token_from text i → m ≡ step n d s x.sort → step n d s (token_from text i).sort ≡ m
+stepped : (text : List ℕ) (i n : ℕ) (d : Due) (s : List Entry) {x : Token} {m : Option Next} → x ≡ token_from text i → m ≡ step n d s x.sort → step n d s (token_from text i).sort ≡ m
 stepped text i n d s e f = ap (λ (y : Token). step n d s y.sort) (sym e) ∙ sym f
 
 -- the place behind a token that leads on
-onward : (text : List ℕ) (i n : ℕ) (d : Due) (s : List ℕ) {x : Token} {r m : Next} → x ≡ token_from text i → Some r ≡ step n d s x.sort → r ≡ m → i ≤ length text → Onward m
+onward : (text : List ℕ) (i n : ℕ) (d : Due) (s : List Entry) {x : Token} {r m : Next} → x ≡ token_from text i → Some r ≡ step n d s x.sort → r ≡ m → i ≤ length text → Onward m
     → (i < x.next) × (x.next ≤ length text)
 onward text i n d s {m = m} e f g l on = rw (sym e) at (leads-on text i n d s m l (stepped text i n d s e f ∙ ap Some g) on)
 

@@ -1,6 +1,5 @@
 -- `letters` meets its contract: a label whose brackets nest 16 deep at most, and the `]` that ends it.
 use Rattle.std.proofs.Common.{sym, subst, Result}
-use Rattle.std.proofs.lemmas.Result.{err_from_is_err_and}
 use Rattle.automaton.specs.declared.Refusal.{Refusal}
 use Rattle.tokens.specs.Tokens.{token_from}
 use Rattle.labels.specs.declared.Lettered.{Lettered}
@@ -11,9 +10,6 @@ use Rattle.labels.proofs.letters.Goals as goal
 
 pub ended-requires : goal.ended-requires
 ended-requires c = (is-on c.args.text.now c.in_ok-read.ensures.reading.is c.requires.from_in_bounds).1
-
-pub returns-in_err-read : goal.returns-in_err-read
-returns-in_err-read c = let p = err_from_is_err_and c.from_residual.result c.from_residual.ensures.1 in rw (p.1, p.2) (c.in_err-read.ensures.reading 0)
 
 pub returns : goal.returns
 returns c =
