@@ -1,17 +1,15 @@
 -- What a report comes to: one list of bytes for each file, no longer than a buffer must be.
-use Rattle.std.proofs.Common.{◌≡◌, refl, sym, ap, ◌∙◌, subst, List, ℕ, ◌≤◌, arith, length}
-use Rattle.automaton.specs.declared.Refusal.TheVariants.{OutputLength, TooLong}
-use Rattle.automaton.specs.Answer.{Answer, Fault, none, fault, first_fault, value, valued}
-use Rattle.automaton.proofs.One.{refused-not}
+use Rattle.std.proofs.Common.{Ok, Result, ◌≡◌, refl, sym, ap, ◌∙◌, List, ℕ, ◌≤◌, arith, length}
+use Rattle.automaton.specs.declared.Refusal.TheVariants.{TooLong}
+use Rattle.automaton.specs.Answer.{Answer, answered, Fault, none, fault, first_fault, valued}
+use Rattle.automaton.specs.declared.Refusal.{Refusal}
 use Rattle.tokens.specs.Tokens.{token_from}
 use Rattle.fields.specs.Bytes.{laid, stop}
 use Rattle.fields.proofs.Laid.{laid-whole, stop-whole}
 use Rattle.text.specs.Calls.{before}
 use Rattle.printer.specs.Printed.{relation_text, told}
 use Rattle.printer.proofs.Fits.{refusal_fits, relation_fits}
-use Rattle.report.specs.declared.Reported.{Reported}
-use Rattle.report.specs.declared.Reported.TheVariants.{Bytes}
-use Rattle.report.specs.Answers.{of_reported}
+use Rattle.report.proofs.One.{one_reported}
 use Rattle.report.specs.Calls.{longest}
 use Rattle.report.proofs.Reading.{before-long}
 use Rattle.hanoi.specs.Calls.{judgements, Legible}
@@ -66,10 +64,8 @@ report-long : {file out : List ℕ} {a : Answer} {left : List ℕ} → Reports f
 report-long (short h e d) = ap length d
 report-long {out = out} (printed {l = l} h p e d) = ap length d ∙ before-long l out (omega (arith, prints_fit p))
 
--- and the bytes counted lie in it
-counted : {file out left : List ℕ} (n : ℕ) → Reports file out (valued n) left → n ≤ length left
-counted n (short h e d) = absurd (refused-not OutputLength (valued n) refl (sym e))
-counted n (printed h p e d) = omega (arith, ap value e, prints_fit p, report-long (printed h p e d))
-
-pub report-within : {file out left : List ℕ} (r : Reported) (n : ℕ) → r ≡ Bytes n → Reports file out (of_reported r) left → n ≤ length left
-report-within {file} {out} {left} r n e p = counted n (subst (λ (y : Reported). Reports file out (of_reported y) left) e p)
+-- in a buffer with room a report is counted, and the bytes counted lie in it
+pub report_counted : {file out left : List ℕ} (r : Result ℕ Refusal) → longest ≤ length out → Reports file out (answered valued r) left → (n : ℕ) × (r ≡ Ok n) × (n ≤ length left)
+report_counted r h (short k e d) = absurd (omega arith)
+report_counted r h (printed {l = l} k p e d) =
+    (length l, one_reported r (Ok (length l)) e, omega (arith, prints_fit p, report-long (printed k p e d)))

@@ -3,7 +3,7 @@ use Rattle.std.proofs.Common.{◌≡◌, ◌∙◌, ◌≤◌, List, Ok, Result,
 use Rattle.std.proofs.Math.ListN.{length-replicate}
 use Rattle.automaton.specs.declared.Refusal.{Refusal}
 use Rattle.automaton.specs.Answer.{answered, valued}
-use Rattle.report.specs.Calls.{longest, reporting}
+use Rattle.report.specs.Calls.{reporting}
 use Rattle.report.specs.Report.{report_of}
 use Rattle.report.proofs.Told.{report_counted, report_fits, report-long}
 use Rattle.relate.proofs.main.Goals as goal
