@@ -7,6 +7,8 @@ use Rattle.std.proofs.Common.{Some, None, Ok, Err}
 use lib.Dec.{eqb}
 use lib.ListN.{length}
 use borrow.Author.Tests.{eqb-true, eq-eqb, not-false}
+use Rattle.std.proofs.Common.{Option}
+use Rattle.std.specs.Option.{ok_or}
 use Rattle.automaton.specs.declared.Mode.{Mode}
 use Rattle.automaton.specs.declared.Mode.TheVariants.{Ordinary, Direct, Delayed, Fair}
 use Rattle.automaton.specs.declared.Refusal.{Refusal}
@@ -47,6 +49,11 @@ ceiling-moves n k marks ms ns Ordinary = refl
 ceiling-moves n k marks ms ns Direct = refl
 ceiling-moves n k marks ms ns Delayed = refl
 ceiling-moves n k marks ms ns Fair = refl
+
+-- what a number's mode was, from what the conversion of the number gave
+pub unnamed : (o : Option Mode) (r : Refusal) → Err r ≡ ok_or o ModeNumber → (o ≡ None) × (r ≡ ModeNumber)
+unnamed None r e = (refl, cc)
+unnamed (Some m) r e = cc
 
 module _ (j : Job) where
   pub entered-refused : (r : Refusal) → automaton_fault j.board j.start ≡ fault r → Err r ≡ entered j

@@ -1,16 +1,15 @@
 -- `arena::enter` meets its contract: what `check` and the mode's number answered decides the refusal, and the arena has the game's numbers.
-use Rattle.std.proofs.Common.{◌≡◌, ap, ◌∙◌, ℕ, [], Ok, Some, None, arith}
+use Rattle.std.proofs.Common.{◌≡◌, ap, ◌∙◌, ℕ, [], Ok, Some, arith}
 use Rattle.std.proofs.lemmas.Result.{err_from_is_err_and}
 use Rattle.automaton.specs.Answer.{none}
 use Rattle.automaton.specs.Check.{automaton_fault, checked}
 use Rattle.automaton.specs.Limits.{name_of}
 use Rattle.automaton.specs.declared.Mode.{Mode}
-use Rattle.automaton.specs.declared.Refusal.TheVariants.{ModeNumber}
 use Rattle.automaton.proofs.One.{checked-none, checked-fault}
 use Rattle.automaton.proofs.Sound.{automaton-line}
 use Rattle.arena.specs.Job.{Job, job_of}
 use Rattle.arena.specs.Arena.{arena_of, entered}
-use Rattle.arena.proofs.Open.{ceiling-moves, entered-refused, entered_unknown, entered-known}
+use Rattle.arena.proofs.Open.{ceiling-moves, entered-refused, entered_unknown, entered-known, unnamed}
 use Rattle.arena.proofs.enter.Goals as goal
 
 pub returns-in_err-check : goal.returns-in_err-check
@@ -41,9 +40,8 @@ returns-in_err-mode c =
     let j : Job = job_of c.job.inside.automaton c.job.inside.marks.now c.job.inside.moves.now c.job.inside.mode in
     let faultless : automaton_fault j.board j.start ≡ none = checked-none _ c.check.result c.in_ok-check.was c.check.ensures in
     let p = err_from_is_err_and c.from_residual-in_err-mode.result c.from_residual-in_err-mode.ensures.1 in
-    let unknown : name_of j.mode ≡ None = grind (arith, c.in_err-mode.ensures) in
-    let refusal : c.in_err-mode.field-0.0 ≡ ModeNumber = grind (arith, c.in_err-mode.ensures) in
-    rw (p.1, p.2, refusal) (entered_unknown j faultless unknown) ∙ ap entered c.job.view_is
+    let known = unnamed (name_of j.mode) _ c.in_err-mode.ensures in
+    rw (p.1, p.2, known.1) (entered_unknown j faultless known.0) ∙ ap entered c.job.view_is
 
 pub returns : goal.returns
 unfolding checked

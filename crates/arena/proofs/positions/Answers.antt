@@ -1,17 +1,17 @@
 -- `arena::positions` meets its contract: what `limits` and the mode's number answered decides the refusal.
-use Rattle.std.proofs.Common.{◌≡◌, sym, ap, ◌∙◌, List, [], ◌∷◌, Some, None, arith}
+use Rattle.std.proofs.Common.{◌≡◌, sym, ap, ◌∙◌, List, [], ◌∷◌, Some, arith}
 use Rattle.std.proofs.lemmas.Result.{err_from_is_err_and}
 use Rattle.automaton.specs.Answer.{Answer, valued, Fault, none, first_fault, unless}
 use Rattle.automaton.specs.Board.{board_of}
 use Rattle.automaton.specs.Check.{states_fault, letters_fault, mode_fault, limited}
 use Rattle.automaton.specs.Limits.{name_of}
-use Rattle.automaton.specs.declared.Refusal.TheVariants.{ModeNumber}
 use Rattle.automaton.proofs.Fault.{faults_passed, faults_stopped}
 use Rattle.automaton.proofs.One.{checked-none, checked-fault}
 use Rattle.automaton.proofs.Sound.{limits-line}
 use Rattle.simulation.specs.Position.{positions}
 use Rattle.simulation.proofs.Limits.{pairs-most}
 use Rattle.arena.specs.Job.{mode_of}
+use Rattle.arena.proofs.Open.{unnamed}
 use Rattle.arena.proofs.positions.Goals as goal
 
 pub returns-in_err-limits : goal.returns-in_err-limits
@@ -50,9 +50,8 @@ returns-in_err-try_from c =
     let sized : Answer = valued (positions (board_of c.args.a [] []) (mode_of c.args.mode)) in
     let within : first_fault limit-lines ≡ none = checked-none (first_fault limit-lines) c.limits.result c.in_ok-limits.was c.limits.ensures in
     let p = err_from_is_err_and c.from_residual-in_err-try_from.result c.from_residual-in_err-try_from.ensures.1 in
-    let unknown : name_of c.args.mode ≡ None = grind (arith, c.in_err-try_from.ensures) in
-    let refusal : c.in_err-try_from.field-0.0 ≡ ModeNumber = grind (arith, c.in_err-try_from.ensures) in
-    rw (p.1, p.2, refusal) (sym (ap (λ f. unless f sized) (faults_passed limit-lines mode-line within) ∙ simp unknown))
+    let known = unnamed (name_of c.args.mode) _ c.in_err-try_from.ensures in
+    rw (p.1, p.2, known.1) (sym (ap (λ f. unless f sized) (faults_passed limit-lines mode-line within) ∙ simp known.0))
 
 pub returns : goal.returns
 unfolding limited
