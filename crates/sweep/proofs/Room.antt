@@ -1,6 +1,5 @@
 -- What a sweep works with: of the table and of what is noted and marked, only the lengths matter.
-use Rattle.std.proofs.Common.{◌≡◌, refl, ◌∙◌, List, ℕ, ◌*◌, ◌≤◌, length, arith}
-use native.Mathlib.Nat.{mul-le-mul}
+use Rattle.std.proofs.Common.{◌≡◌, refl, ◌∙◌, List, ℕ, ◌*◌, ◌≤◌, length, arith, mul-le-mul}
 use Rattle.simulation.specs.Position.{layers}
 use Rattle.simulation.proofs.Limits.{layers-most}
 use Rattle.arena.specs.declared.game.Game.{Game}

@@ -1,6 +1,5 @@
 -- `duplicators::ends::dead_ends` meets its contract: a word that is found holds what has no step, and all that is found has been raised.
-use mathlib.Core.List.{List}
-use Prim.Native.Nat.{ℕ}
+use Rattle.std.proofs.Common.{List, ℕ}
 use Rattle.automaton.specs.Board.{Board}
 use Rattle.arena.specs.Game.{board}
 use Rattle.duplicators.specs.Growing.{growing}

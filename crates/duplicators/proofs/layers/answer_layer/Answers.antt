@@ -1,7 +1,5 @@
 -- `duplicators::layers::answer_layer` meets its contract: the rows that are not left are at rest.
-use mathlib.Core.Path.{subst}
-use Prim.Native.Nat.{ℕ}
-use native.Mathlib.Omega.{arith}
+use Rattle.std.proofs.Common.{subst, ℕ, arith}
 use Rattle.automaton.specs.Board.{Board}
 use Rattle.arena.specs.Game.{board}
 use Rattle.duplicators.specs.Growing.{Growing, growing}
