@@ -84,6 +84,9 @@ pub alike : {l m : Lists} → length m.table ≡ length l.table → length m.ris
     → length m.olds ≡ length l.olds → length m.grown ≡ length l.grown → length m.columns ≡ length l.columns → Alike l m
 alike t ri ro ol gr co = record { like_table = t; like_risen = ri; like_rows = ro; like_olds = ol; like_grown = gr; like_columns = co }
 
+pub alike_none : {l : Lists} → Alike l l
+alike_none = alike refl refl refl refl refl refl
+
 pub alike_more : {l m w : Lists} → Alike l m → Alike m w → Alike l w
 alike_more a b = record {
   like_table = b.like_table ∙ a.like_table;
