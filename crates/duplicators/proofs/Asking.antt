@@ -1,13 +1,6 @@
 -- What Duplicator's (b,q,r,a) asks for, by the states that its moves lead to.
-use mathlib.Core.Path.{◌≡◌, refl, sym, ap, ◌∙◌}
-use mathlib.Core.Logic.{◌⊎◌, inl, inr}
-use mathlib.Core.Bool.{Bool, true, false}
-use mathlib.Core.List.{List, Memᴰ}
-use Prim.Native.Nat.{ℕ, ◌+◌, ◌*◌, ◌-◌, ◌≤◌, ◌<◌, max}
-use native.Mathlib.Omega.{arith}
-use borrow.Author.Tests.{eq-eqb, ne_eqb}
-use lib.Dec.{eqb}
-use lib.ListN.{length}
+use Rattle.std.proofs.Common.{◌≡◌, refl, sym, ap, ◌∙◌, ◌⊎◌, inl, inr, Bool, true, false, List, ℕ, ◌+◌, ◌*◌, ◌-◌, ◌≤◌, ◌<◌, max, arith, eq-eqb, ne_eqb, eqb, length}
+use mathlib.Core.List.{Memᴰ}
 use Rattle.games.specs.Game.{Kind, ask, lowest, at}
 use Rattle.games.proofs.Asked.{lowest_le, lowest-cap}
 use Rattle.games.proofs.Rule.{lowest_in}

@@ -1,6 +1,5 @@
 -- Numbers of entries and of words are far below what a machine number holds.
-use Rattle.std.proofs.Common.{◌≡◌, List, ℕ, ◌+◌, ◌*◌, ◌≤◌, ◌<◌, length, arith}
-use native.Mathlib.Nat.{mul-le-mul}
+use Rattle.std.proofs.Common.{◌≡◌, List, ℕ, ◌+◌, ◌*◌, ◌≤◌, ◌<◌, length, arith, mul-le-mul}
 use lib.Arith.{digits_lt}
 use Rattle.automaton.specs.declared.Mode.{Mode}
 use Rattle.simulation.specs.Position.{duplicator, layers, number}

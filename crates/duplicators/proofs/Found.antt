@@ -1,9 +1,5 @@
 -- The candidates of a row cover what is not at rest in it, with and without those that a low entry holds down; and its levels tell what they ask for.
-use mathlib.Core.Path.{◌≡◌, subst}
-use mathlib.Core.Logic.{◌⊎◌, inl, inr}
-use mathlib.Core.List.{List}
-use Prim.Native.Nat.{ℕ, ◌+◌, ◌*◌, ◌<◌}
-use native.Mathlib.Omega.{arith}
+use Rattle.std.proofs.Common.{◌≡◌, subst, ◌⊎◌, inl, inr, List, ℕ, ◌+◌, ◌*◌, ◌<◌, arith}
 use native.Mathlib.Decide.{dec_lt}
 use Rattle.games.specs.Game.{at}
 use Rattle.words.specs.Word.{dig, In, Minus, Below}

@@ -1,11 +1,5 @@
 -- The entries of a row, gathered one by one, and the set of those at most `old`.
-use mathlib.Core.Path.{◌≡◌}
-use mathlib.Core.Logic.{◌⊎◌, inl, inr}
-use mathlib.Core.List.{List}
-use Prim.Native.Nat.{ℕ, ◌+◌, ◌≤◌, ◌<◌}
-use native.Mathlib.Omega.{arith}
-use lib.ListN.{length, set}
-use lib.Seq.{get_or-set_same, get_or-set_other}
+use Rattle.std.proofs.Common.{◌≡◌, ◌⊎◌, inl, inr, List, ℕ, ◌+◌, ◌≤◌, ◌<◌, arith, length, set, get_or-set_same, get_or-set_other}
 use Rattle.games.specs.Game.{at}
 use Rattle.words.specs.Word.{In}
 use Rattle.words.proofs.Sets.{empty, with_cases, with_old}

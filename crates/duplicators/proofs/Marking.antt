@@ -1,10 +1,6 @@
 -- One more member in one word of a list of sets.
-use mathlib.Core.Path.{◌≡◌}
-use mathlib.Core.List.{List}
-use Prim.Native.Nat.{ℕ, ◌<◌}
+use Rattle.std.proofs.Common.{◌≡◌, List, ℕ, ◌<◌, length, set, length-set, get_or-set_same, get_or-set_other}
 use native.Mathlib.Decide.{ℕ_discrete}
-use lib.ListN.{length, set, length-set}
-use lib.Seq.{get_or-set_same, get_or-set_other}
 use Rattle.games.specs.Game.{at}
 use Rattle.words.specs.Word.{In, With}
 use Rattle.words.proofs.Sets.{with_old}

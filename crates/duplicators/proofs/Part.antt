@@ -1,12 +1,7 @@
 -- Parts of Duplicator's half: none, one entry raised, and one part after another.
-use mathlib.Core.Path.{◌≡◌, refl, ◌∙◌}
-use mathlib.Core.Logic.{◌⊎◌, inl, inr}
-use mathlib.Core.List.{List, [], ◌∷◌, Memᴰ}
-use Prim.Native.Nat.{ℕ, zero, suc, ◌+◌, ◌≤◌, ◌<◌}
-use native.Mathlib.Omega.{arith}
+use Rattle.std.proofs.Common.{◌≡◌, refl, ◌∙◌, ◌⊎◌, inl, inr, List, [], ◌∷◌, ℕ, zero, suc, ◌+◌, ◌≤◌, ◌<◌, arith, length, set, length-set, get_or-set_same, get_or-set_other}
+use mathlib.Core.List.{Memᴰ}
 use native.Mathlib.Decide.{ℕ_discrete, dec_lt}
-use lib.ListN.{length, set, length-set}
-use lib.Seq.{get_or-set_same, get_or-set_other}
 use Rattle.games.specs.Game.{asked, at}
 use Rattle.games.proofs.Asked.{asked_local}
 use Rattle.games.proofs.Rose.{rose-none, rose-most, rose-join, rose-put}

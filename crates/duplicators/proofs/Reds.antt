@@ -1,10 +1,5 @@
 -- The states of a row whose entries have risen, as the row's positions see them.
-use mathlib.Core.Path.{◌≡◌}
-use mathlib.Core.Logic.{◌⊎◌, inl, inr}
-use mathlib.Core.Bool.{Bool, true, false}
-use mathlib.Core.List.{List}
-use Prim.Native.Nat.{ℕ, ◌+◌, ◌*◌, ◌<◌, min}
-use native.Mathlib.Omega.{arith}
+use Rattle.std.proofs.Common.{◌≡◌, ◌⊎◌, inl, inr, Bool, true, false, List, ℕ, ◌+◌, ◌*◌, ◌<◌, min, arith}
 use Rattle.games.specs.Game.{at}
 use Rattle.words.specs.Word.{dig, In, Minus, Below, Joined, Met}
 use Rattle.words.proofs.Sets.{empty, minus-sub, joined-cases, joined_in_left, joined_in_right, met_in, met_right}

@@ -1,11 +1,5 @@
 -- The rows of a layer, and the layers of the half: what has been raised, and what is at rest so far.
-use mathlib.Core.Path.{◌≡◌, sym, ◌∙◌}
-use mathlib.Core.Logic.{◌⊎◌, inl, inr}
-use mathlib.Core.Bool.{Bool, true, false}
-use mathlib.Core.List.{List}
-use Prim.Native.Nat.{ℕ, ◌+◌, ◌≤◌, ◌<◌, max}
-use native.Mathlib.Omega.{arith}
-use lib.ListN.{length}
+use Rattle.std.proofs.Common.{◌≡◌, sym, ◌∙◌, ◌⊎◌, inl, inr, Bool, true, false, List, ℕ, ◌+◌, ◌≤◌, ◌<◌, max, arith, length}
 use Rattle.games.specs.Game.{asked, at}
 use Rattle.games.specs.Half.{Halved}
 use Rattle.words.specs.Word.{dig, In, Pop, Below, Joined, Met}

@@ -1,10 +1,5 @@
 -- The work on a row, member by member and letter by letter: what has been raised, and who is at rest so far.
-use mathlib.Core.Path.{◌≡◌}
-use mathlib.Core.Logic.{◌⊎◌, inl, inr}
-use mathlib.Core.List.{List}
-use Prim.Native.Nat.{ℕ, ◌+◌, ◌<◌}
-use native.Mathlib.Omega.{arith}
-use lib.ListN.{length}
+use Rattle.std.proofs.Common.{◌≡◌, ◌⊎◌, inl, inr, List, ℕ, ◌+◌, ◌<◌, arith, length}
 use Rattle.games.specs.Game.{at}
 use Rattle.words.specs.Word.{In, Pop}
 use Rattle.words.proofs.Sets.{empty, pop_cases, pop_sub}

@@ -13,7 +13,7 @@ pub trait Tell {
     // With this table it can tell what (b,q,r,a) asks for.
     ghost can_tell: { Self → Game → (table : List ℕ) → Row → (r a : ℕ) → Type 0 };
 
-    // What (b,q,r,a) asks for, or what raises it as little.
+    // What (b,q,r,a) asks for, or what raises its entry as little.
     fn low(&self, game: &Game, table: &[u32], w: Row, r: usize, a: usize) -> u32
         requires ready { Playable game.now table.now }
         requires rowed { Rowed game.now.arena.states game.now.arena.mode w }

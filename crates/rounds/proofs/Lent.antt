@@ -1,9 +1,6 @@
 -- What the first sweep works with: lists at the limits, in which nothing is noted or marked.
-use mathlib.Core.List.{List}
-use Prim.Native.Nat.{ℕ, ◌+◌, ◌*◌, ◌≤◌}
-use native.Mathlib.Nat.{mul-le-mul}
-use native.Mathlib.Omega.{arith}
-use lib.ListN.{replicate, length-replicate}
+use Rattle.std.proofs.Common.{List, ℕ, ◌+◌, ◌*◌, ◌≤◌, mul-le-mul, arith, replicate}
+use lib.ListN.{length-replicate}
 use Rattle.words.proofs.Digits.{dig-zero}
 use Rattle.automaton.specs.declared.Mode.{Mode}
 use Rattle.automaton.specs.Board.{Board, Formed}

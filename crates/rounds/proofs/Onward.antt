@@ -1,6 +1,5 @@
 -- The sweeps as a function makes them: one that gives r and leaves u, where the defined sweep raises r entries of t and leaves u.
-use Rattle.std.proofs.Common.{◌≡◌, refl, ◌∙◌, List, ℕ, zero, suc, ◌+◌, ◌*◌, ◌-◌, ◌≤◌, ◌<◌, min, arith}
-use native.Mathlib.Nat.{mul-le-mul}
+use Rattle.std.proofs.Common.{◌≡◌, refl, ◌∙◌, List, ℕ, zero, suc, ◌+◌, ◌*◌, ◌-◌, ◌≤◌, ◌<◌, min, arith, mul-le-mul}
 use Rattle.games.specs.Game.{Game}
 use Rattle.games.specs.Lift.{lifts, raises, bound}
 use Rattle.games.specs.Settle.{settle, sweep}

@@ -1,10 +1,5 @@
 -- From two halves to a sweep, and from one sweep to the next.
-use mathlib.Core.Path.{◌≡◌, sym, ◌∙◌}
-use mathlib.Core.Logic.{◌⊎◌, inl, inr}
-use mathlib.Core.List.{List}
-use Prim.Native.Nat.{ℕ, ◌+◌, ◌*◌, ◌≤◌}
-use native.Mathlib.Omega.{arith}
-use lib.ListN.{length}
+use Rattle.std.proofs.Common.{◌≡◌, sym, ◌∙◌, ◌⊎◌, inl, inr, List, ℕ, ◌+◌, ◌*◌, ◌≤◌, arith, length}
 use Rattle.games.specs.Game.{at}
 use Rattle.games.specs.Lift.{Capped, lifts, raises}
 use Rattle.games.specs.Half.{rose, Halved}

@@ -1,11 +1,6 @@
 -- The first sweep of a cleared table: Duplicator's dead ends rise by themselves, and who else may rise has only steps to entries that have risen.
-use mathlib.Core.Path.{◌≡◌, sym, ◌∙◌}
-use mathlib.Core.Logic.{◌⊎◌, inl, inr}
-use mathlib.Core.List.{List}
-use Prim.Native.Nat.{ℕ, ◌≤◌, ◌<◌, max}
-use native.Mathlib.Omega.{arith}
+use Rattle.std.proofs.Common.{◌≡◌, sym, ◌∙◌, ◌⊎◌, inl, inr, List, ℕ, ◌≤◌, ◌<◌, max, arith, length}
 use native.Mathlib.Decide.{dec_le}
-use lib.ListN.{length}
 use Rattle.games.specs.Game.{asked, at}
 use Rattle.games.specs.Half.{Halved}
 use Rattle.games.proofs.Asked.{lowest_le}

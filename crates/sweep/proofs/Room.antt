@@ -1,6 +1,5 @@
 -- What a sweep works with: of the table and of what is noted and marked, only the lengths matter.
-use Rattle.std.proofs.Common.{◌≡◌, refl, ◌∙◌, List, ℕ, ◌*◌, ◌≤◌, length, arith}
-use native.Mathlib.Nat.{mul-le-mul}
+use Rattle.std.proofs.Common.{◌≡◌, refl, ◌∙◌, List, ℕ, ◌*◌, ◌≤◌, length, arith, mul-le-mul}
 use Rattle.simulation.specs.Position.{layers}
 use Rattle.simulation.proofs.Limits.{layers-most}
 use Rattle.arena.specs.declared.game.Game.{Game}
@@ -84,6 +83,9 @@ pub record Alike (l m : Lists) : Type 0 where
 pub alike : {l m : Lists} → length m.table ≡ length l.table → length m.risen ≡ length l.risen → length m.rows ≡ length l.rows
     → length m.olds ≡ length l.olds → length m.grown ≡ length l.grown → length m.columns ≡ length l.columns → Alike l m
 alike t ri ro ol gr co = record { like_table = t; like_risen = ri; like_rows = ro; like_olds = ol; like_grown = gr; like_columns = co }
+
+pub alike_none : {l : Lists} → Alike l l
+alike_none = alike refl refl refl refl refl refl
 
 pub alike_more : {l m w : Lists} → Alike l m → Alike m w → Alike l w
 alike_more a b = record {

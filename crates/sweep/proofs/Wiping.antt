@@ -1,13 +1,6 @@
 -- Words as they are taken away: the rows of a set one by one, and the rows of both sets.
-use mathlib.Core.Path.{◌≡◌, sym, subst, ◌∙◌}
-use mathlib.Core.Logic.{◌⊎◌, inl, inr}
-use mathlib.Core.List.{List}
-use Prim.Native.Nat.{ℕ, zero, suc, ◌+◌, ◌*◌, ◌≤◌, ◌<◌}
+use Rattle.std.proofs.Common.{◌≡◌, sym, subst, ◌∙◌, ◌⊎◌, inl, inr, List, ℕ, zero, suc, ◌+◌, ◌*◌, ◌≤◌, ◌<◌, zero-mul, one-mul, arith, length, set, get_or-set_same, get_or-set_other}
 use native.Mathlib.Decide.{dec_le, ℕ_discrete}
-use native.Mathlib.Nat.{zero-mul, one-mul}
-use native.Mathlib.Omega.{arith}
-use lib.ListN.{length, set}
-use lib.Seq.{get_or-set_same, get_or-set_other}
 use Rattle.games.specs.Game.{at}
 use Rattle.words.specs.Word.{dig, In, Pop, Below, Met}
 use Rattle.words.proofs.Digits.{dig-zero}

@@ -1,7 +1,5 @@
 -- `duplicators::answer` meets its contract: the layers before b are at rest.
-use mathlib.Core.Path.{◌≡◌, subst}
-use Prim.Native.Nat.{ℕ, ◌<◌}
-use native.Mathlib.Omega.{arith}
+use Rattle.std.proofs.Common.{◌≡◌, subst, ℕ, ◌<◌, arith}
 use Rattle.automaton.specs.Board.{Board}
 use Rattle.arena.specs.Game.{board}
 use Rattle.halves.specs.Rising.{rising}

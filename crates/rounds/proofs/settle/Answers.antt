@@ -1,5 +1,5 @@
 -- `rounds::settle` meets its contract: the lists that it lends are zeros at the limits, and the words are drawn.
-use Prim.Native.Nat.{◌*◌}
+use Rattle.std.proofs.Common.{◌*◌}
 use Rattle.automaton.specs.Limits.{most_states, most_letters}
 use Rattle.arena.specs.Game.{board}
 use Rattle.halves.proofs.Drawing.{zeros-empty}

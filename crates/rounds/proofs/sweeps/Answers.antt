@@ -3,7 +3,7 @@
 use Rattle.std.proofs.Common.{arith}
 use Rattle.games.proofs.Sweeping.{sweeping_none, sweeping_raised}
 use Rattle.arena.specs.Game.{board, played}
-use Rattle.sweep.proofs.Room.{alike, alike_more, equipped_again}
+use Rattle.sweep.proofs.Room.{alike, alike_more}
 use Rattle.rounds.proofs.Onward.{onward, onward-less, bound-most}
 use Rattle.rounds.proofs.sweeps.Goals as goal
 
@@ -21,9 +21,6 @@ overflow_add-raised c =
     let s = c.loop-last.invariant.2.more (omega arith) in
     omega (arith, bound-most (board c.args.game.now) c.args.game.now.arena.mode c.requires.equipped.ready.formed, sweeping_raised (played c.args.game.now) _ _ s)
 
-pub again-last-requires : goal.again-last-requires
-again-last-requires c = record { equipped = equipped_again c.requires.equipped c.loop-last.invariant.0; poised = c.loop-last.invariant.1 }
-
 pub loop-last-preserved : goal.loop-last-preserved
 loop-last-preserved c =
     let s = c.loop-last.invariant.2.more (omega arith) in
@@ -37,8 +34,3 @@ pub loop-last-smaller : goal.loop-last-smaller
 loop-last-smaller c =
     let s = c.loop-last.invariant.2.more (omega arith) in
     onward-less (played c.args.game.now) c.again-last.new.table s c.again-last.ensures.value c.again-last.ensures.table_after (omega arith)
-
-pub returns : goal.returns
-returns c =
-    let both = c.loop-last.invariant.2.done (omega arith) in
-    record { value = both.0; table_after = both.1 }

@@ -12,10 +12,6 @@ challenge-pushed-requires c =
     let e = c.requires.equipped in
     record { ready = e.ready; accepting = e.accepting; into = e.before; onto = e.after; spacious = spacious_of e; roomy = roomy_of e; capped = c.requires.poised.capped; all_calm = c.requires.poised.calm; blank = c.requires.poised.blank }
 
-pub all_columns-requires : goal.all_columns-requires
-all_columns-requires c =
-    record { numbers_fit = (c.requires.equipped.ready.formed.few, c.requires.equipped.ready.formed.few_letters); columns_in_bounds = (c.requires.equipped.for_grown, c.requires.equipped.for_columns) }
-
 pub answer-answered-requires : goal.answer-answered-requires
 answer-answered-requires c =
     let pushed = c.challenge-pushed in

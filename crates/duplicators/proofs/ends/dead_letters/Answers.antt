@@ -1,14 +1,10 @@
 -- `duplicators::ends::dead_letters` meets its contract: the first a words are found, and `any` has what they hold.
-use Rattle.std.proofs.Common.{ℕ, ◌<◌, length, length-take-le, arith}
-use Rattle.std.proofs.Math.ListN.{get_or-append}
+use Rattle.std.proofs.Common.{ℕ, arith}
 use Rattle.words.specs.Word.{In}
 use Rattle.words.proofs.Sets.{joined_in_left, joined_in_right}
 use Rattle.levels.proofs.Stored.{stored}
 use Rattle.duplicators.specs.Ends.{Dead}
 use Rattle.duplicators.proofs.ends.dead_letters.Goals as goal
-
-pub loop-a-init : goal.loop-a-init
-loop-a-init c = (λ i h. absurd (omega arith), λ i r h. absurd (omega arith))
 
 pub loop-a-preserved : goal.loop-a-preserved
 loop-a-preserved c =
@@ -19,13 +15,3 @@ loop-a-preserved c =
       λ i r h. stored (λ i w. (r : ℕ) → In r w → In r c.join-any.result) words a dead (omega arith)
           (λ i h r x. joined_in_left c.join-any.ensures r (c.loop-a.invariant.1 i r h x)) (λ r x. joined_in_right c.join-any.ensures r x) i h r,
     )
-
-pub returns-clause-all_dead : goal.returns-clause-all_dead
-returns-clause-all_dead c = λ a h.
-    let written : a < length c.loop-a.word-items = omega (arith, length-take-le c.args.k c.args.found.now) in
-    rw (get_or-append c.loop-a.word-items _ 0 a written) (c.loop-a.invariant.0 a (omega arith))
-
-pub returns-clause-all_in : goal.returns-clause-all_in
-returns-clause-all_in c = λ a r h.
-    let written : a < length c.loop-a.word-items = omega (arith, length-take-le c.args.k c.args.found.now) in
-    rw (get_or-append c.loop-a.word-items _ 0 a written) (c.loop-a.invariant.1 a r (omega arith))

@@ -1,7 +1,5 @@
 -- `duplicators::layers::answer_layer` meets its contract: the rows that are not left are at rest.
-use mathlib.Core.Path.{subst}
-use Prim.Native.Nat.{ℕ}
-use native.Mathlib.Omega.{arith}
+use Rattle.std.proofs.Common.{subst, ℕ, arith}
 use Rattle.automaton.specs.Board.{Board}
 use Rattle.arena.specs.Game.{board}
 use Rattle.duplicators.specs.Growing.{Growing, growing}
@@ -39,8 +37,5 @@ loop-q-preserved c =
     let o = c.requires.prepared.ready in
     layer-more B c.args.drawn.now.game.arena.mode c.args.b o.formed o.entries c.requires.b_bound popped c.loop-q.invariant c.answer_red-count.ensures.answered_in c.answer_red-count.ensures.row_still
 
-pub returns : goal.returns
-returns c =
-    let B : Board = board c.args.drawn.now.game in
-    let both = layer-end B c.args.drawn.now.game.arena.mode c.args.b c.in-None.ensures.steps.0 c.loop-q.invariant in
-    record { answered_in = both.0; layer_still = both.1 }
+pub returns-clause-layer_still : goal.returns-clause-layer_still
+returns-clause-layer_still c = (layer-end (board c.args.drawn.now.game) c.args.drawn.now.game.arena.mode c.args.b c.in-None.ensures.steps.0 c.loop-q.invariant).1

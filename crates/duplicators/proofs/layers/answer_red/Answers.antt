@@ -1,7 +1,5 @@
 -- `duplicators::layers::answer_red` meets its contract: what is not at rest in the row has a step to one of `fresh`.
-use mathlib.Core.Path.{◌≡◌, refl, sym, subst}
-use mathlib.Core.Bool.{true}
-use Prim.Native.Nat.{ℕ, ◌+◌, ◌*◌, min}
+use Rattle.std.proofs.Common.{◌≡◌, refl, sym, subst, true, ℕ, ◌+◌, ◌*◌, min}
 use Rattle.automaton.specs.Board.{Board}
 use Rattle.arena.specs.Game.{board}
 use Rattle.games.specs.Game.{at}

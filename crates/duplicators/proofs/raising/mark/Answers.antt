@@ -1,7 +1,5 @@
 -- `duplicators::raising::mark` meets its contract: the words of the column and of its layer are in range.
-use Prim.Native.Nat.{◌+◌, ◌*◌, ◌≤◌, ◌<◌}
-use native.Mathlib.Omega.{arith}
-use lib.ListN.{length}
+use Rattle.std.proofs.Common.{◌+◌, ◌*◌, ◌≤◌, ◌<◌, arith, length}
 use Rattle.automaton.specs.Board.{Board}
 use Rattle.simulation.specs.Position.{layers}
 use Rattle.arena.specs.Game.{board}

@@ -8,11 +8,6 @@ use Rattle.duplicators.proofs.raising.raise_letter.Goals as goal
 pub loop-r-init : goal.loop-r-init
 loop-r-init g c = rw (c.into_iter-r-iterator.ensures.into_iter_gives, c.members-r-items.ensures) (letter-start _ _ _ _ _ _ _)
 
-pub low-low-requires-clause-in_range : goal.low-low-requires-clause-in_range
-low-low-requires-clause-in_range g c =
-    let popped = c.in-Some.ensures.steps.1 in
-    (c.requires.in_range.1 _ (c.loop-r.invariant.sub _ popped.here), c.requires.in_range.0)
-
 pub low-low-requires-clause-can_tell : goal.low-low-requires-clause-can_tell
 low-low-requires-clause-can_tell g c =
     let popped = c.in-Some.ensures.steps.1 in

@@ -1,7 +1,5 @@
 -- `duplicators::rows::answer_row` meets its contract: the candidates cover what is not at rest, by scans and by levels.
-use mathlib.Core.List.{List}
-use Prim.Native.Nat.{ℕ}
-use native.Mathlib.Omega.{arith}
+use Rattle.std.proofs.Common.{List, ℕ, arith}
 use Rattle.automaton.specs.Board.{Board}
 use Rattle.arena.specs.Game.{board}
 use Rattle.levels.specs.Lows.{AllWithin}

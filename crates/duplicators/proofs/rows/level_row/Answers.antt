@@ -1,8 +1,5 @@
 -- `duplicators::rows::level_row` meets its contract: the candidates that are left cover what is not at rest.
-use mathlib.Core.Path.{◌≡◌, ◌∙◌}
-use mathlib.Core.List.{List}
-use Prim.Native.Nat.{ℕ, ◌<◌}
-use native.Mathlib.Omega.{arith}
+use Rattle.std.proofs.Common.{◌≡◌, ◌∙◌, List, ℕ, ◌<◌, arith}
 use Rattle.automaton.specs.Board.{Board}
 use Rattle.arena.specs.Game.{board}
 use Rattle.games.specs.Game.{at}

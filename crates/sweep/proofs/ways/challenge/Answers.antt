@@ -3,15 +3,8 @@ use Rattle.arena.specs.Game.{board}
 use Rattle.spoilers.proofs.Calms.{calm-floor}
 use Rattle.sweep.proofs.ways.challenge.Goals as goal
 
-pub dense-requires : goal.dense-requires
-dense-requires c = (c.requires.ready.formed.few, c.requires.ready.formed.few_letters)
-
 pub pull-requires : goal.pull-requires
 pull-requires c =
     let a = c.args in
     let floor = calm-floor (board a.game.now) a.game.now.arena.mode a.table.now a.grown.now a.columns.now c.requires.all_calm in
     record { ready = c.requires.ready; accepting = c.requires.accepting; onto = c.requires.onto; roomy = c.requires.roomy; capped = c.requires.capped; floored = floor; blank = c.requires.blank }
-
-pub push-requires : goal.push-requires
-push-requires c =
-    record { ready = c.requires.ready; accepting = c.requires.accepting; into = c.requires.into; spacious = c.requires.spacious; roomy = c.requires.roomy; capped = c.requires.capped; all_calm = c.requires.all_calm; blank = c.requires.blank }

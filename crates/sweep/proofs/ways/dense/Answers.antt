@@ -1,7 +1,5 @@
 -- `sweep::ways::dense` meets its contract: the products are small.
-use Prim.Native.Nat.{ℕ, ◌+◌, ◌*◌, ◌≤◌}
-use native.Mathlib.Nat.{mul-le-mul}
-use native.Mathlib.Omega.{arith}
+use Rattle.std.proofs.Common.{ℕ, ◌+◌, ◌*◌, ◌≤◌, mul-le-mul, arith}
 use Rattle.sweep.proofs.ways.dense.Goals as goal
 
 most : (n k moves : ℕ) → n ≤ 64 → k ≤ 16 → moves ≤ 65536 → (n * k ≤ 1024) × (n * (n * k + moves) ≤ 4259840)

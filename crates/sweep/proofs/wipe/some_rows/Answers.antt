@@ -6,12 +6,6 @@ use Rattle.sweep.proofs.wipe.some_rows.Goals as goal
 pub loop-q-init : goal.loop-q-init
 loop-q-init c = (λ i. inl refl, rw (c.into_iter-q-iterator.ensures.into_iter_gives, c.members-q-items.ensures) (visit-begun c.below.ensures c.meet.ensures))
 
-pub bounds-risen-first : goal.bounds-risen-first
-bounds-risen-first c = omega (arith, c.loop-q.invariant.1.within _ c.in-Some.ensures.steps.1.here)
-
-pub bounds-olds-first : goal.bounds-olds-first
-bounds-olds-first c = omega (arith, c.loop-q.invariant.1.within _ c.in-Some.ensures.steps.1.here)
-
 pub loop-q-preserved : goal.loop-q-preserved
 loop-q-preserved c =
     let popped = c.in-Some.ensures.steps.1 in
