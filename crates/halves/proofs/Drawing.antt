@@ -1,5 +1,5 @@
 -- Words as they are drawn: the accepting states mark by mark, and the moves one by one.
-use Rattle.std.proofs.Common.{[], drop, get_or-take, get_or-drop, ◌≡◌, refl, sym, ap, ◌∙◌, ◌≢◌, ◌⊎◌, inl, inr, List, ℕ, zero, suc, ◌+◌, ◌*◌, ◌/◌, ◌%◌, ◌≤◌, ◌<◌, eqb, length, get_or, set, replicate, length-set, get_or-set_same, get_or-set_other, eq-eqb, ne_eqb, arith}
+use Rattle.std.proofs.Common.{[], drop, get_or-take, get_or-drop, ◌≡◌, refl, sym, ap, ◌∙◌, ◌≢◌, ◌⊎◌, inl, inr, List, ℕ, zero, suc, ◌+◌, ◌*◌, ◌/◌, ◌%◌, ◌≤◌, ◌<◌, eqb, length, get_or, replicate, eq-eqb, ne_eqb, arith}
 use Rattle.std.specs.Simd.{first_chunks}
 use native.Mathlib.Decide.{ℕ_discrete}
 use lib.Arith.{digits_div, digits_mod}
@@ -15,13 +15,6 @@ pub zeros-empty : (n : ℕ) → Empty (replicate n 0)
 zeros-empty zero i = refl
 zeros-empty (suc n) zero = refl
 zeros-empty (suc n) (suc i) = zeros-empty n i
-
-pub inserted : (s : List ℕ) (i x w : ℕ) → i < length s → With (at s i) x w → Inserted s i x (set s i w)
-inserted s i x w l h = record {
-  words = length-set s i w;
-  here = rw (get_or-set_same s i w 0 l) h;
-  other = λ j n. get_or-set_other s i j w 0 n;
-}
 
 -- ---- the accepting states
 

@@ -1,13 +1,13 @@
 -- Products of numbers within the limits: what positions are counted by is small.
-use Rattle.std.proofs.Common.{◌≡◌, ℕ, ◌+◌, ◌*◌, ◌≤◌, ◌<◌, mul-le-mul, arith, length}
+use Rattle.std.proofs.Common.{ℕ, ◌+◌, ◌*◌, ◌≤◌, ◌<◌, mul-le-mul, arith, length}
 use lib.Arith.{digits_lt}
 use Rattle.automaton.specs.declared.Mode.{Mode}
 use Rattle.automaton.specs.Board.{Board, accepts, Formed}
 use Rattle.automaton.specs.Limits.{most_letters, most_states}
-use Rattle.simulation.specs.Position.{layers, pairs, positions}
+use Rattle.simulation.specs.Position.{layers, positions}
 use Rattle.simulation.specs.Rules.{pended}
 use Rattle.simulation.proofs.Inward.{pended_lt}
-use Rattle.simulation.proofs.Limits.{layers-most, pairs-most, positions-most}
+use Rattle.simulation.proofs.Limits.{layers-most, positions-most}
 use Rattle.simulation.proofs.Position.{positions_are}
 use Rattle.arena.specs.declared.Arena.{Arena}
 use Rattle.arena.specs.declared.game.Game.{Game}
@@ -21,52 +21,12 @@ module _ (B : Board) (m : Mode) (F : Formed B) where
   pub bit-row-most : (b : ℕ) → b < layers m → b * B.n ≤ 64
   bit-row-most b h = mul-le-mul {n₂ = 1} {m₂ = 64} (omega (arith, layers-most m)) F.few
 
-  pub square_most : B.n * B.n ≤ 4096
-  square_most = mul-le-mul {n₂ = 64} {m₂ = 64} F.few F.few
-
-  pub layer-most : (b : ℕ) → b < layers m → b * (B.n * B.n) ≤ 4096
-  layer-most b h = mul-le-mul {n₂ = 1} {m₂ = 4096} (omega (arith, layers-most m)) square_most
-
-  pub block-most : (b r : ℕ) → b < layers m → r < B.n → (b * (B.n * B.n) + r) * B.k ≤ 66560
-  block-most b r h l = mul-le-mul {n₂ = 4160} {m₂ = 16} (omega (arith, layer-most b h, F.few)) F.few_letters
-
   -- the entry that a move of Red's to x by a leads to is in the table
   pub challenged-within : (b r x a : ℕ) → b < layers m → r < B.n → x < B.n → a < B.k → challenged B m b r x a < positions B m
   challenged-within b r x a hb hr hx ha = (duplicator-within B m F (pended m (accepts B x) b) x r a (pended_lt m (accepts B x) b hb) hx hr ha).1
 
   pub challenged_small : (b r x a : ℕ) → b < layers m → r < B.n → x < B.n → a < B.k → challenged B m b r x a < 139264
   challenged_small b r x a hb hr hx ha = omega (arith, challenged-within b r x a hb hr hx ha, positions-most B F m)
-
--- where the entries begin that moves into a column lead to: every number on the way is small
-pub record Blocked (g : Arena) (b r : ℕ) : Type 0 where
-  pub layer : b * (g.states * g.states) ≤ 4096
-  pub sum : b * (g.states * g.states) + r ≤ 4160
-  pub block : (b * (g.states * g.states) + r) * g.letters ≤ 66560
-  pub pairs : g.pairs ≤ 8192
-
-pub blocked : (g : Game) → Formed (board g) → g.arena.pairs ≡ pairs (board g) g.arena.mode → (b r : ℕ) → b < layers g.arena.mode → r < g.arena.states → Blocked g.arena b r
-blocked g F paired b r hb hr = record {
-  layer = layer-most (board g) g.arena.mode F b hb;
-  sum = omega (arith, layer-most (board g) g.arena.mode F b hb, F.few);
-  block = block-most (board g) g.arena.mode F b r hb hr;
-  pairs = omega (arith, paired, pairs-most (board g) g.arena.mode F.few);
-}
-
--- the word of Duplicator's column (b,·,r,a) is among all, and its number is small
-pub record Worded (m : Mode) (n k b r a : ℕ) : Type 0 where
-  pub row : b * n ≤ 64
-  pub small : (b * n + r) * k + a < 2048
-  pub within : (b * n + r) * k + a < layers m * n * k
-
-pub worded : (m : Mode) (n k b r a : ℕ) → n ≤ most_states → k ≤ most_letters → b < layers m → r < n → a < k → Worded m n k b r a
-worded m n k b r a few few_letters hb hr ha = record {
-  row = mul-le-mul {n₂ = 1} {m₂ = 64} (omega (arith, layers-most m)) few;
-  small = omega (arith, within, mul-le-mul {n₁ = layers m * n} {m₁ = k} {n₂ = 128} {m₂ = 16} (mul-le-mul {n₂ = 2} {m₂ = 64} (layers-most m) few) few_letters);
-  within = within;
-}
-  where
-    within : (b * n + r) * k + a < layers m * n * k
-    within = digits_lt (digits_lt hb hr) ha
 
 -- the word of the moves to x by a
 pub into_small : (n k x a : ℕ) → n ≤ most_states → k ≤ most_letters → x < n → a < k → (x * k + a < n * k) × (n * k ≤ 1024)

@@ -1,5 +1,5 @@
 -- High over Red's moves, member by member and letter by letter, and a position raised to what it asks for: after it every move is heeded.
-use Rattle.std.proofs.Common.{◌≡◌, refl, subst, ◌⊎◌, inl, inr, List, ℕ, ◌+◌, ◌*◌, ◌≤◌, ◌<◌, max, le_refl, le_trans, arith}
+use Rattle.std.proofs.Common.{refl, ◌≡◌, subst, ◌⊎◌, inl, inr, List, ℕ, ◌+◌, ◌*◌, ◌≤◌, ◌<◌, max, le_trans, arith}
 use native.Mathlib.Decide.{dec_le, dec_lt}
 use Rattle.games.specs.Game.{asked, at}
 use Rattle.games.proofs.Rule.{rule_mono, rule-floor}
@@ -35,9 +35,6 @@ pub record Climbing (f : ℕ → ℕ) (set high left h : ℕ) : Type 0 where
   pub some : (h ≡ high) ⊎ ((x : ℕ) × In x set × (f x ≡ h))
 
 module _ (f : ℕ → ℕ) (set high : ℕ) where
-  pub climb_start : Climbing f set high set high
-  climb_start = record { sub = λ x i. i; least = le_refl high; each = λ x i. inl i; some = inl refl }
-
   pub climb_more : {left x rest h v e : ℕ} → Pop left x rest → Climbing f set high left h → v ≡ f x → e ≡ max v h → Climbing f set high rest e
   climb_more {left} {x} {rest} {h} {v} {e} p c here greater = record {
     sub = λ z i. c.sub z (pop_sub p z i);

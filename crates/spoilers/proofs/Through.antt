@@ -16,9 +16,6 @@ pub record Through (B : Board) (m : Mode) (all : ℕ) (Done : (t : List ℕ) →
   pub over : (x : ℕ) → In x all → In x left ⊎ Done s.table x
 
 module _ {B : Board} {m : Mode} {Done : (t : List ℕ) → ℕ → Type 0} where
-  pub through_start : (all : ℕ) (s : Rising) → Through B m all Done s s 0 all
-  through_start all s = record { pushed = pushed_none B m s; sized = sized_none s; sub = λ x i. i; over = λ x i. inl i }
-
   module _ {all : ℕ} {s₀ s : Rising} {c left : ℕ} (t : Through B m all Done s₀ s c left) where
     pub through_more : {u : Rising} {d x rest : ℕ} → Pop left x rest → Pushed B m s u d → Sized s u → Done u.table x
         → ((y : ℕ) → Done s.table y → Done u.table y) → Through B m all Done s₀ u (c + d) rest

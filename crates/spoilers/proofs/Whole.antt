@@ -10,11 +10,9 @@ use Rattle.simulation.specs.Position.{layers, pairs, pair}
 use Rattle.simulation.specs.Rules.{game}
 use Rattle.arena.specs.declared.game.Game.{Game}
 use Rattle.arena.specs.Game.{board, Playable}
-use Rattle.halves.specs.Drawn.{Accepting}
 use Rattle.halves.specs.Rising.{Rising, Roomy, Blank, Spoiling, Pushed, rising}
 use Rattle.halves.proofs.Places.{each-spoiler}
 use Rattle.spoilers.specs.Work.{Raising}
-use Rattle.spoilers.specs.Shape.{Known}
 
 -- nothing has risen, and nothing is noted
 spoiling_start : (B : Board) (m : Mode) (t ri ro ol : List ℕ) → Blank B m ri → Spoiling B m t (rising t ri ro ol) 0
@@ -33,10 +31,6 @@ raising-start g t ri ro ol ready roomy blank = record {
   roomy = roomy;
   underway = (t, (0, spoiling_start (board g) g.arena.mode t ri ro ol blank));
 }
-
--- what is known of an arena in which the accepting states are drawn
-pub known-start : {g : Game} {t : List ℕ} {acc : ℕ} → Playable g t → Accepting (board g) acc → Known g acc
-known-start ready accepting = record { formed = ready.formed; paired = ready.paired; topped = ready.topped; accepting = accepting }
 
 module _ (B : Board) (m : Mode) (t ri ro ol : List ℕ) (u : Rising) {c : ℕ} (blank : Blank B m ri) (pushed : Pushed B m (rising t ri ro ol) u c) where
   pub all_spoiling : Spoiling B m t u c

@@ -4,8 +4,8 @@ use Rattle.arena.specs.Game.{board}
 use Rattle.halves.specs.Rising.{rising}
 use Rattle.spoilers.specs.Work.{Raising}
 use Rattle.spoilers.proofs.Parts.{pushed_then, raising-kept, raising-most}
-use Rattle.spoilers.proofs.Through.{upto_start, upto_more}
-use Rattle.spoilers.proofs.Whole.{known-start, raising-start, all_spoiling, whole}
+use Rattle.spoilers.proofs.Through.{upto_more}
+use Rattle.spoilers.proofs.Whole.{raising-start, all_spoiling, whole}
 use Rattle.spoilers.proofs.Floors.{zeros-asked}
 use Rattle.spoilers.proofs.begin.Goals.{Start}
 use Rattle.spoilers.proofs.begin.Goals as goal
@@ -14,11 +14,8 @@ use Rattle.spoilers.proofs.begin.Goals as goal
 starts : (c : Start) → Raising c.args.game.now (rising c.args.table.now c.args.risen.now c.args.rows.now c.args.olds.now)
 starts c = let a = c.args in raising-start a.game.now a.table.now a.risen.now a.rows.now a.olds.now c.requires.ready c.requires.roomy c.requires.blank
 
-pub loop-b-init : goal.loop-b-init
-loop-b-init c = upto_start _
-
-pub begin_layer-raised-requires : goal.begin_layer-raised-requires
-begin_layer-raised-requires c = let done = c.loop-b.invariant in record { raising = raising-kept (starts (goal.at.begin_layer-raised-requires c).Start) done.pushed done.sized; known = known-start c.requires.ready c.requires.accepting; bit_in_game = omega (arith, c.layers_of-b-end.ensures) }
+pub begin_layer-raised-requires-clause-raising : goal.begin_layer-raised-requires-clause-raising
+begin_layer-raised-requires-clause-raising c = let done = c.loop-b.invariant in raising-kept (starts (goal.at.begin_layer-raised-requires-clause-raising c).Start) done.pushed done.sized
 
 pub overflow_add-raised : goal.overflow_add-raised
 overflow_add-raised c = omega (arith, raising-most (starts (goal.at.overflow_add-raised c).Start) (pushed_then (board c.args.game.now) c.args.game.now.arena.mode c.loop-b.invariant.pushed c.begin_layer-raised.ensures.pushed))

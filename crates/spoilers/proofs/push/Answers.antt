@@ -4,8 +4,8 @@ use Rattle.arena.specs.Game.{board}
 use Rattle.halves.specs.Rising.{rising}
 use Rattle.spoilers.specs.Work.{Working}
 use Rattle.spoilers.proofs.Parts.{pushed_then, working_kept, raising-most}
-use Rattle.spoilers.proofs.Through.{upto_start, upto_more}
-use Rattle.spoilers.proofs.Whole.{known-start, all_spoiling, whole}
+use Rattle.spoilers.proofs.Through.{upto_more}
+use Rattle.spoilers.proofs.Whole.{all_spoiling, whole}
 use Rattle.spoilers.proofs.Pushes.{layered_kept}
 use Rattle.spoilers.proofs.Calms.{working_start, calm-floor, calm_covered}
 use Rattle.spoilers.proofs.push.Goals.{Start}
@@ -15,11 +15,8 @@ use Rattle.spoilers.proofs.push.Goals as goal
 starts : (c : Start) → Working c.args.game.now (rising c.args.table.now c.args.risen.now c.args.rows.now c.args.olds.now)
 starts c = let a = c.args in working_start a.game.now a.table.now a.risen.now a.rows.now a.olds.now c.requires.ready c.requires.roomy c.requires.capped (calm-floor (board a.game.now) a.game.now.arena.mode a.table.now a.grown.now a.columns.now c.requires.all_calm) c.requires.blank
 
-pub loop-b-init : goal.loop-b-init
-loop-b-init c = upto_start _
-
-pub layer-raised-requires : goal.layer-raised-requires
-layer-raised-requires c = let done = c.loop-b.invariant in record { working = working_kept (starts (goal.at.layer-raised-requires c).Start) done.pushed done.sized; known = known-start c.requires.ready c.requires.accepting; reading = record { drawn = c.requires.into; words = c.requires.spacious.words }; sets = c.requires.spacious.sets; bit_in_game = omega (arith, c.layers_of-b-end.ensures) }
+pub layer-raised-requires-clause-working : goal.layer-raised-requires-clause-working
+layer-raised-requires-clause-working c = let done = c.loop-b.invariant in working_kept (starts (goal.at.layer-raised-requires-clause-working c).Start) done.pushed done.sized
 
 pub overflow_add-raised : goal.overflow_add-raised
 overflow_add-raised c = omega (arith, raising-most ((starts (goal.at.overflow_add-raised c).Start).raising) (pushed_then (board c.args.game.now) c.args.game.now.arena.mode c.loop-b.invariant.pushed c.layer-raised.ensures.pushed))

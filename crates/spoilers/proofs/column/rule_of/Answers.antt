@@ -2,7 +2,7 @@
 use Rattle.std.proofs.Common.{◌≡◌, ap, inl, inr, true, false, ℕ, ◌+◌, arith}
 use Rattle.words.proofs.Sets.{in_or-out}
 use Rattle.automaton.specs.Board.{accepts}
-use Rattle.simulation.proofs.Limits.{layers-most, ceiling-most}
+use Rattle.simulation.proofs.Limits.{layers-most}
 use Rattle.arena.specs.Game.{board}
 use Rattle.spoilers.proofs.Members.{has_in, has-not}
 use Rattle.spoilers.proofs.Asks.{accepting_in, accepting-out, asking-plain, asking_reset, asking-idle, asking-count, plain_kinds}
@@ -15,15 +15,6 @@ blue c h = accepting_in (board c.args.game.now) _ c.requires.known.accepting _ c
 
 not_blue : (c : After-has-accepts) → c.has-accepts.result ≡ false → accepts (board c.args.game.now) c.args.r ≡ false
 not_blue c h = accepting-out (board c.args.game.now) _ c.requires.known.accepting _ c.requires.column_in_game.1 (has-not _ _ c.has-accepts.ensures h)
-
-pub has-accepts-requires : goal.has-accepts-requires
-has-accepts-requires c = omega (arith, c.requires.column_in_game.1, c.requires.known.formed.few)
-
-pub overflow_add-result : goal.overflow_add-result
-overflow_add-result c = omega (arith, c.requires.known.topped, ceiling-most (board c.args.game.now) c.requires.known.formed c.args.game.now.arena.mode)
-
-pub below-requires : goal.below-requires
-below-requires c = c.requires.known.formed.few
 
 pub returns-in-Ordinary : goal.returns-in-Ordinary
 returns-in-Ordinary c = let a = c.args in asking-plain (board a.game.now) a.game.now.arena.mode a.b a.r (λ q. plain_kinds a.game.now.arena.mode c.in-Ordinary.is a.b _ _)

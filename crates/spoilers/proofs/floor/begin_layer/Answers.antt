@@ -9,17 +9,11 @@ use Rattle.spoilers.proofs.floor.begin_layer.Goals as goal
 pub loop-r-init : goal.loop-r-init
 loop-r-init c = upto_start _
 
-pub floor_of-hit-requires : goal.floor_of-hit-requires
-floor_of-hit-requires c = record { known = c.requires.known; column_in_game = (c.requires.bit_in_game, omega arith) }
+pub put-raised-requires-clause-raising : goal.put-raised-requires-clause-raising
+put-raised-requires-clause-raising c = let done = c.loop-r.invariant in raising-kept c.requires.raising done.pushed done.sized
 
-pub put-raised-requires : goal.put-raised-requires
-put-raised-requires c =
-    let done = c.loop-r.invariant in
-    record {
-      raising = raising-kept c.requires.raising done.pushed done.sized;
-      column_in_game = (c.requires.bit_in_game, omega arith);
-      hits = floor-hits (board c.args.game.now) c.args.game.now.arena.mode c.args.b c.loop-r.r c.floor_of-hit.ensures c.requires.raising.ready.formed c.requires.bit_in_game (omega arith) c.loop-r.table;
-    }
+pub put-raised-requires-clause-hits : goal.put-raised-requires-clause-hits
+put-raised-requires-clause-hits c = floor-hits (board c.args.game.now) c.args.game.now.arena.mode c.args.b c.loop-r.r c.floor_of-hit.ensures c.requires.raising.ready.formed c.requires.bit_in_game (omega arith) c.loop-r.table
 
 pub overflow_add-raised : goal.overflow_add-raised
 overflow_add-raised c = omega (arith, raising-most c.requires.raising (pushed_then (board c.args.game.now) c.args.game.now.arena.mode c.loop-r.invariant.pushed c.put-raised.ensures.pushed))

@@ -13,12 +13,6 @@ use Rattle.spoilers.proofs.floor.floor_of.Goals as goal
 not_blue : (c : Else-has) → accepts (board c.args.game.now) c.args.r ≡ false
 not_blue c = accepting-out (board c.args.game.now) _ c.requires.known.accepting _ c.requires.column_in_game.1 (has-not _ _ c.has.ensures c.if-has.false)
 
-pub has-requires : goal.has-requires
-has-requires c = omega (arith, c.requires.column_in_game.1, c.requires.known.formed.few)
-
-pub below-requires : goal.below-requires
-below-requires c = c.requires.known.formed.few
-
 pub returns-then-has : goal.returns-then-has
 returns-then-has c =
     let a = c.args in

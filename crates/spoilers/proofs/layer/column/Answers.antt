@@ -7,19 +7,14 @@ use Rattle.spoilers.proofs.Pushes.{lettered_kept, column-done, column_still}
 use Rattle.spoilers.proofs.Through.{upto_start, upto_more}
 use Rattle.spoilers.proofs.layer.column.Goals as goal
 
-pub of-c-requires : goal.of-c-requires
-of-c-requires c = record { known = c.requires.known; column_in_game = c.requires.column_in_game }
-
 pub returns-then-c-game : goal.returns-then-c-game
 returns-then-c-game c = record { pushed = pushed_none (board c.args.game.now) c.args.game.now.arena.mode _; columned = λ a ha x hx i. column_still c.requires.working c.of-c.ensures c.if-c-game.true a x }
 
 pub loop-a-init : goal.loop-a-init
 loop-a-init c = (upto_start _, λ q i. absurd (empty q i))
 
-pub letter-raised-requires : goal.letter-raised-requires
-letter-raised-requires c =
-    let (done, guarded) = c.loop-a.invariant in
-    record { working = working_kept c.requires.working done.pushed done.sized; reading = c.requires.reading; shaped = c.of-c.ensures.0; letter_in_game = omega arith; guarded = guarded }
+pub letter-raised-requires-clause-working : goal.letter-raised-requires-clause-working
+letter-raised-requires-clause-working c = let done = c.loop-a.invariant.0 in working_kept c.requires.working done.pushed done.sized
 
 pub overflow_add-raised : goal.overflow_add-raised
 overflow_add-raised c = omega (arith, raising-most c.requires.working.raising (pushed_then (board c.args.game.now) c.args.game.now.arena.mode c.loop-a.invariant.0.pushed c.letter-raised.ensures.pushed))

@@ -1,4 +1,4 @@
--- `spoilers::layer::column` meets its contract. The invariant: all that is marked by the letters below a is heeded, and those done have had the greatest entry.
+-- `spoilers::layer::column` meets its contract. The invariant: all that is marked by the letters below a is heeded, and those that have had the greatest entry have what it gives.
 use Rattle.arena.specs.Game.{board}
 use Rattle.halves.specs.Rising.{rising}
 use Rattle.spoilers.specs.Front.{Guarded, Lettered}

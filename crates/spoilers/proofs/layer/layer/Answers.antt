@@ -6,26 +6,11 @@ use Rattle.simulation.proofs.Moves.{move-within}
 use Rattle.arena.specs.Game.{board}
 use Rattle.spoilers.proofs.Parts.{pushed_then, working_kept, raising-most}
 use Rattle.spoilers.proofs.Pushes.{columned_kept}
-use Rattle.spoilers.proofs.Through.{through_start, through_more, through_end}
+use Rattle.spoilers.proofs.Through.{through_more, through_end}
 use Rattle.spoilers.proofs.layer.layer.Goals as goal
 
-pub stirred-requires : goal.stirred-requires
-stirred-requires c = record { few = c.requires.known.formed.few; bit_in_game = c.requires.bit_in_game; sets = c.requires.sets }
-
-pub loop-r-init : goal.loop-r-init
-loop-r-init c = through_start _ _
-
-pub column-raised-requires : goal.column-raised-requires
-column-raised-requires c =
-    let done = c.loop-r.invariant in
-    let r = c.in-Some.r in
-    let known : In r c.stirred.result = rw (c.into_iter-r-iterator.ensures.into_iter_gives, c.members-r-items.ensures) at (done.sub r c.in-Some.ensures.steps.1.here) in
-    record {
-      working = working_kept c.requires.working done.pushed done.sized;
-      known = c.requires.known;
-      reading = c.requires.reading;
-      column_in_game = (c.requires.bit_in_game, c.stirred.ensures.states r known);
-    }
+pub column-raised-requires-clause-working : goal.column-raised-requires-clause-working
+column-raised-requires-clause-working c = let done = c.loop-r.invariant in working_kept c.requires.working done.pushed done.sized
 
 pub overflow_add-raised : goal.overflow_add-raised
 overflow_add-raised c = omega (arith, raising-most c.requires.working.raising (pushed_then (board c.args.game.now) c.args.game.now.arena.mode c.loop-r.invariant.pushed c.column-raised.ensures.pushed))

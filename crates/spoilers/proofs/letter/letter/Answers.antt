@@ -1,30 +1,13 @@
--- `spoilers::letter::letter` meets its contract. The invariant: the sources that are not left are heeded, and those done have had the greatest entry.
+-- `spoilers::letter::letter` meets its contract. The invariant: the sources that are not left are heeded, and those that have had the greatest entry have what it gives.
 use Rattle.std.proofs.Common.{arith}
 use Rattle.arena.specs.Game.{board}
-use Rattle.words.specs.Word.{In}
 use Rattle.spoilers.proofs.Parts.{pushed_then, working_kept, raising-most}
 use Rattle.spoilers.proofs.Pushes.{heard_kept}
-use Rattle.spoilers.proofs.Through.{through_start, through_more, through_end}
+use Rattle.spoilers.proofs.Through.{through_more, through_end}
 use Rattle.spoilers.proofs.letter.letter.Goals as goal
 
-pub sources-requires : goal.sources-requires
-sources-requires c = record { shaped = c.requires.shaped; words = c.requires.reading.words; letter_in_game = c.requires.letter_in_game }
-
-pub loop-x-init : goal.loop-x-init
-loop-x-init c = (through_start _ _, c.requires.guarded)
-
-pub push_one-raised-requires : goal.push_one-raised-requires
-push_one-raised-requires c =
-    let (done, guarded) = c.loop-x.invariant in
-    let x = c.in-Some.x in
-    let known : In x c.sources.result = rw (c.into_iter-x-iterator.ensures.into_iter_gives, c.members-x-items.ensures) at (done.sub x c.in-Some.ensures.steps.1.here) in
-    record {
-      working = working_kept c.requires.working done.pushed done.sized;
-      into = c.requires.reading.drawn;
-      shaped = c.requires.shaped;
-      move_in_game = (c.requires.letter_in_game, c.sources.ensures.states x known);
-      guarded = guarded;
-    }
+pub push_one-raised-requires-clause-working : goal.push_one-raised-requires-clause-working
+push_one-raised-requires-clause-working c = let done = c.loop-x.invariant.0 in working_kept c.requires.working done.pushed done.sized
 
 pub overflow_add-raised : goal.overflow_add-raised
 overflow_add-raised c = omega (arith, raising-most c.requires.working.raising (pushed_then (board c.args.game.now) c.args.game.now.arena.mode c.loop-x.invariant.0.pushed c.push_one-raised.ensures.pushed))

@@ -1,4 +1,4 @@
--- `spoilers::letter::letter` meets its contract. The invariant: the sources that are not left are heeded, and those done have had the greatest entry.
+-- `spoilers::letter::letter` meets its contract. The invariant: the sources that are not left are heeded, and those that have had the greatest entry have what it gives.
 use Rattle.arena.specs.Game.{board}
 use Rattle.halves.specs.Rising.{rising}
 use Rattle.spoilers.specs.Front.{Guarded, Heard}

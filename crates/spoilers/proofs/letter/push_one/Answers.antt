@@ -12,9 +12,6 @@ use Rattle.spoilers.proofs.letter.push_one.Goals as goal
 word : (c : Start) → let n = c.args.game.now.arena.states in let k = c.args.game.now.arena.letters in (c.args.x * k + c.args.a < n * k) × (n * k ≤ 1024)
 word c = let F = c.requires.shaped.known.formed in into_small _ _ _ _ F.few F.few_letters c.requires.move_in_game.1 c.requires.move_in_game.0
 
-pub source-requires : goal.source-requires
-source-requires c = record { shaped = c.requires.shaped; move_in_game = c.requires.move_in_game }
-
 pub offset_bounds-table-source : goal.offset_bounds-table-source
 offset_bounds-table-source c =
     omega (arith, c.source.ensures, challenged_small (board c.args.game.now) c.args.game.now.arena.mode c.requires.shaped.known.formed _ _ _ _ c.requires.shaped.bit c.requires.shaped.blue c.requires.move_in_game.1 c.requires.move_in_game.0)
@@ -31,27 +28,14 @@ returns-then-v-c c =
       heard = small-heard c.requires.working c.requires.shaped c.args.a c.args.x (omega (arith, c.if-v-c.true, ap (at c.args.table.now) c.source.ensures));
     }
 
-pub overflow_mul-before : goal.overflow_mul-before
-overflow_mul-before c = omega (arith, word (goal.at.overflow_mul-before c).Start)
-
-pub overflow_add-before : goal.overflow_add-before
-overflow_add-before c = omega (arith, word (goal.at.overflow_add-before c).Start)
-
-pub offset_bounds-into-x : goal.offset_bounds-into-x
-offset_bounds-into-x c = omega (arith, word (goal.at.offset_bounds-into-x c).Start)
-
 pub bounds-into-x : goal.bounds-into-x
 bounds-into-x c = omega (arith, word (goal.at.bounds-into-x c).Start, c.requires.into.room)
 
-pub put-raised-requires : goal.put-raised-requires
-put-raised-requires c =
+pub put-raised-requires-clause-hits : goal.put-raised-requires-clause-hits
+put-raised-requires-clause-hits c =
     let p = c.requires in
-    record {
-      raising = p.working.raising;
-      column_in_game = (p.shaped.bit, p.shaped.blue);
-      hits = gift-hits p.working p.shaped c.args.a c.args.x c.gift-gift.result (ap (at c.args.table.now) c.source.ensures) c.gift-gift.ensures c.if-v-c.false c.fresh-hit.result
-          (λ q i. p.into.move q c.args.a c.args.x p.move_in_game.1 p.move_in_game.0 (c.fresh-hit.ensures.sub q i));
-    }
+    gift-hits p.working p.shaped c.args.a c.args.x c.gift-gift.result (ap (at c.args.table.now) c.source.ensures) c.gift-gift.ensures c.if-v-c.false c.fresh-hit.result
+    (λ q i. p.into.move q c.args.a c.args.x p.move_in_game.1 p.move_in_game.0 (c.fresh-hit.ensures.sub q i))
 
 pub returns : goal.returns
 returns c =

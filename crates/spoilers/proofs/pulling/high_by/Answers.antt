@@ -1,40 +1,18 @@
 -- `spoilers::pulling::high_by` meets its contract. The invariant: h is the greatest of `high` and of what the members that are not left lead to.
-use Rattle.std.proofs.Common.{ap, ◌<◌, ◌+◌, ◌*◌, ◌≤◌, arith}
+use Rattle.std.proofs.Common.{ap, ◌<◌, arith}
 use Rattle.games.specs.Game.{at}
 use Rattle.simulation.proofs.Moves.{move-within}
 use Rattle.arena.specs.Game.{board}
-use Rattle.spoilers.proofs.Bounds.{challenged-within, challenged_small, into_small}
-use Rattle.spoilers.proofs.Pulls.{climb_start, climb_more, climb_end}
-use Rattle.spoilers.proofs.pulling.high_by.Goals.{Start, In-Some}
+use Rattle.spoilers.proofs.Bounds.{challenged-within, challenged_small}
+use Rattle.spoilers.proofs.Pulls.{climb_more, climb_end}
+use Rattle.spoilers.proofs.pulling.high_by.Goals.{In-Some}
 use Rattle.spoilers.proofs.pulling.high_by.Goals as goal
 
--- the word of the moves from q by a
-word : (c : Start) → let n = c.args.game.now.arena.states in let k = c.args.game.now.arena.letters in (c.args.q * k + c.args.a < n * k) × (n * k ≤ 1024)
-word c = into_small _ _ _ _ c.requires.ready.formed.few c.requires.ready.formed.few_letters c.requires.move_in_game.0 c.requires.move_in_game.1
-
--- a member of it is a state
+-- a member of the word of the moves from q by a is a state
 below : (c : In-Some) → c.in-Some.x < c.args.game.now.arena.states
 below c =
     (move-within (board c.args.game.now) c.requires.ready.formed c.args.q c.args.a c.in-Some.x
     (c.requires.onto.move c.args.q c.args.a c.in-Some.x c.requires.move_in_game.0 c.requires.move_in_game.1 (c.loop-x.invariant.sub c.in-Some.x c.in-Some.ensures.steps.1.here))).2
-
-pub overflow_mul-q : goal.overflow_mul-q
-overflow_mul-q c = omega (arith, word (goal.at.overflow_mul-q c).Start)
-
-pub overflow_add-q : goal.overflow_add-q
-overflow_add-q c = omega (arith, word (goal.at.overflow_add-q c).Start)
-
-pub offset_bounds-onto-q : goal.offset_bounds-onto-q
-offset_bounds-onto-q c = omega (arith, word (goal.at.offset_bounds-onto-q c).Start)
-
-pub bounds-onto-q : goal.bounds-onto-q
-bounds-onto-q c = omega (arith, word (goal.at.bounds-onto-q c).Start, c.requires.onto.room)
-
-pub loop-x-init : goal.loop-x-init
-loop-x-init c = rw (c.into_iter-x-iterator.ensures.into_iter_gives, c.members-x-items.ensures) (climb_start _ _ _)
-
-pub source-requires : goal.source-requires
-source-requires c = record { shaped = c.requires.shaped; move_in_game = (c.requires.move_in_game.1, below (goal.at.source-requires c).In-Some) }
 
 pub offset_bounds-table-source : goal.offset_bounds-table-source
 offset_bounds-table-source c =

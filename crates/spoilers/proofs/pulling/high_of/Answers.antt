@@ -6,9 +6,6 @@ use Rattle.spoilers.proofs.pulling.high_of.Goals as goal
 pub loop-a-init : goal.loop-a-init
 loop-a-init c = high-none _ _ _ _ _ _
 
-pub high_by-h-requires : goal.high_by-h-requires
-high_by-h-requires c = record { ready = c.requires.ready; onto = c.requires.onto; shaped = c.requires.shaped; move_in_game = (c.requires.state_in_game, omega arith) }
-
 pub loop-a-preserved : goal.loop-a-preserved
 loop-a-preserved c = high-more _ _ _ _ _ _ _ _ _ c.loop-a.invariant c.high_by-h.ensures
 

@@ -4,22 +4,14 @@ use Rattle.arena.specs.Game.{board}
 use Rattle.spoilers.proofs.Parts.{pushed_none, pushed_then, working_kept, raising-most}
 use Rattle.spoilers.proofs.Pushes.{column_still}
 use Rattle.spoilers.proofs.Pulls.{heeds_kept, heeds_column}
-use Rattle.spoilers.proofs.Through.{upto_start, upto_more}
+use Rattle.spoilers.proofs.Through.{upto_more}
 use Rattle.spoilers.proofs.pulling.pull_column.Goals as goal
-
-pub of-c-requires : goal.of-c-requires
-of-c-requires c = record { known = c.requires.known; column_in_game = c.requires.column_in_game }
 
 pub returns-then-c-game : goal.returns-then-c-game
 returns-then-c-game c = record { pushed = pushed_none (board c.args.game.now) c.args.game.now.arena.mode _; column_heeds = λ q hq a x. column_still c.requires.working c.of-c.ensures c.if-c-game.true a x q }
 
-pub loop-q-init : goal.loop-q-init
-loop-q-init c = upto_start _
-
-pub pull_one-rose-requires : goal.pull_one-rose-requires
-pull_one-rose-requires c =
-    let done = c.loop-q.invariant in
-    record { working = working_kept c.requires.working done.pushed done.sized; onto = c.requires.onto; shaped = c.of-c.ensures.0; state_in_game = omega arith }
+pub pull_one-rose-requires-clause-working : goal.pull_one-rose-requires-clause-working
+pull_one-rose-requires-clause-working c = let done = c.loop-q.invariant in working_kept c.requires.working done.pushed done.sized
 
 pub overflow_add-raised : goal.overflow_add-raised
 overflow_add-raised c = omega (arith, raising-most c.requires.working.raising (pushed_then (board c.args.game.now) c.args.game.now.arena.mode c.loop-q.invariant.pushed c.pull_one-rose.ensures.pushed), c.from-raised.ensures)

@@ -3,16 +3,11 @@ use Rattle.std.proofs.Common.{arith}
 use Rattle.arena.specs.Game.{board}
 use Rattle.spoilers.proofs.Parts.{pushed_then, working_kept, raising-most}
 use Rattle.spoilers.proofs.Pulls.{column_heeds_kept}
-use Rattle.spoilers.proofs.Through.{upto_start, upto_more}
+use Rattle.spoilers.proofs.Through.{upto_more}
 use Rattle.spoilers.proofs.pulling.pull_layer.Goals as goal
 
-pub loop-r-init : goal.loop-r-init
-loop-r-init c = upto_start _
-
-pub pull_column-raised-requires : goal.pull_column-raised-requires
-pull_column-raised-requires c =
-    let done = c.loop-r.invariant in
-    record { working = working_kept c.requires.working done.pushed done.sized; known = c.requires.known; onto = c.requires.onto; column_in_game = (c.requires.bit_in_game, omega arith) }
+pub pull_column-raised-requires-clause-working : goal.pull_column-raised-requires-clause-working
+pull_column-raised-requires-clause-working c = let done = c.loop-r.invariant in working_kept c.requires.working done.pushed done.sized
 
 pub overflow_add-raised : goal.overflow_add-raised
 overflow_add-raised c = omega (arith, raising-most c.requires.working.raising (pushed_then (board c.args.game.now) c.args.game.now.arena.mode c.loop-r.invariant.pushed c.pull_column-raised.ensures.pushed))

@@ -1,29 +1,19 @@
 -- `spoilers::pulling::pull_one` meets its contract: a small High is heeded already, and for another the entry is raised to what High gives it.
-use Rattle.std.proofs.Common.{◌∙◌, ap, arith}
+use Rattle.std.proofs.Common.{◌∙◌, ap}
 use Rattle.arena.specs.Game.{board}
 use Rattle.spoilers.proofs.Parts.{pushed_none}
 use Rattle.spoilers.proofs.Pulls.{pull-below, pull-due, pull-done}
 use Rattle.spoilers.proofs.pulling.pull_one.Goals as goal
-
-pub high_of-h-requires : goal.high_of-h-requires
-high_of-h-requires c = record { ready = c.requires.working.raising.ready; onto = c.requires.onto; shaped = c.requires.shaped; state_in_game = c.requires.state_in_game }
 
 pub returns-then-h-c : goal.returns-then-h-c
 returns-then-h-c c =
     let p = c.requires in
     record { pushed = pushed_none (board c.args.game.now) c.args.game.now.arena.mode _; heeds = pull-below p.working p.shaped c.args.q p.state_in_game c.high_of-h.result c.high_of-h.ensures c.if-h-c.true }
 
-pub to-e-requires : goal.to-e-requires
-to-e-requires c = omega (arith, c.requires.state_in_game, c.requires.shaped.known.formed.few)
-
-pub raise-requires : goal.raise-requires
-raise-requires c =
+pub raise-requires-clause-due : goal.raise-requires-clause-due
+raise-requires-clause-due c =
     let p = c.requires in
-    record {
-      raising = p.working.raising;
-      position_in_game = (p.shaped.bit, p.state_in_game, p.shaped.blue);
-      due = pull-due p.working p.shaped c.args.q p.state_in_game c.high_of-h.result c.high_of-h.ensures (c.to-e.ensures ∙ ap (λ f. f c.args.q) c.gift.ensures) c.if-h-c.false;
-    }
+    pull-due p.working p.shaped c.args.q p.state_in_game c.high_of-h.result c.high_of-h.ensures (c.to-e.ensures ∙ ap (λ f. f c.args.q) c.gift.ensures) c.if-h-c.false
 
 pub returns : goal.returns
 returns c =

@@ -4,25 +4,21 @@ use Rattle.simulation.specs.Position.{pair}
 use Rattle.arena.specs.Game.{board}
 use Rattle.halves.proofs.Places.{pair-below}
 use Rattle.spoilers.proofs.Parts.{pushed_then, asked-kept, raising-kept, raising-most}
-use Rattle.spoilers.proofs.Through.{through_start, through_more, through_end}
+use Rattle.spoilers.proofs.Through.{through_more, through_end}
 use Rattle.spoilers.proofs.raise.put.Goals as goal
 
-pub loop-q-init : goal.loop-q-init
-loop-q-init c = rw (c.into_iter-q-iterator.ensures.into_iter_gives, c.members-q-items.ensures) (through_start _ _)
+pub raise-rose-requires-clause-raising : goal.raise-rose-requires-clause-raising
+raise-rose-requires-clause-raising c = let done = c.loop-q.invariant in raising-kept c.requires.raising done.pushed done.sized
 
-pub to-requires : goal.to-requires
-to-requires c = c.in-Some.ensures.steps.1.bound
-
-pub raise-rose-requires : goal.raise-rose-requires
-raise-rose-requires c =
+pub raise-rose-requires-clause-due : goal.raise-rose-requires-clause-due
+raise-rose-requires-clause-due c =
     let B = board c.args.game.now in
     let m = c.args.game.now.arena.mode in
     let F = c.requires.raising.ready.formed in
     let done = c.loop-q.invariant in
-    let (hb, hr) = c.requires.column_in_game in
     let (hq, due) = c.requires.hits c.in-Some.q (done.sub c.in-Some.q c.in-Some.ensures.steps.1.here) in
-    let kept = asked-kept B m F c.args.table.now c.loop-q.table done.pushed.others (pair B c.args.b c.in-Some.q c.args.r) (pair-below B m F c.args.b c.in-Some.q c.args.r hb hq hr) in
-    record { raising = raising-kept c.requires.raising done.pushed done.sized; position_in_game = (hb, hq, hr); due = rw (kept, c.to.ensures) due }
+    let kept = asked-kept B m F c.args.table.now c.loop-q.table done.pushed.others (pair B c.args.b c.in-Some.q c.args.r) (pair-below B m F c.args.b c.in-Some.q c.args.r c.requires.column_in_game.0 hq c.requires.column_in_game.1) in
+    rw (kept, c.to.ensures) due
 
 pub overflow_add-raised : goal.overflow_add-raised
 overflow_add-raised c = omega (arith, raising-most c.requires.raising (pushed_then (board c.args.game.now) c.args.game.now.arena.mode c.loop-q.invariant.pushed c.raise-rose.ensures.pushed), c.from-raised.ensures)

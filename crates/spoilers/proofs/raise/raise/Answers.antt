@@ -12,33 +12,6 @@ use Rattle.spoilers.proofs.raise.raise.Goals as goal
 place : (c : Start) → Placed c.args.game.now.arena (rising c.args.table.now c.args.risen.now c.args.rows.now c.args.olds.now) c.args.b c.args.q c.args.r
 place c = placed c.args.game.now _ c.requires.raising c.args.b c.args.q c.args.r c.requires.position_in_game.0 c.requires.position_in_game.1 c.requires.position_in_game.2
 
-pub overflow_mul-row : goal.overflow_mul-row
-overflow_mul-row c = omega (arith, (place (goal.at.overflow_mul-row c).Start).row)
-
-pub overflow_add-row : goal.overflow_add-row
-overflow_add-row c = let p = place (goal.at.overflow_add-row c).Start in omega (arith, p.row, p.states)
-
-pub overflow_mul-i : goal.overflow_mul-i
-overflow_mul-i c = omega (arith, (place (goal.at.overflow_mul-i c).Start).small)
-
-pub overflow_add-i : goal.overflow_add-i
-overflow_add-i c = omega (arith, (place (goal.at.overflow_add-i c).Start).small)
-
-pub offset_bounds-table-i : goal.offset_bounds-table-i
-offset_bounds-table-i c = omega (arith, (place (goal.at.offset_bounds-table-i c).Start).small)
-
-pub bounds-table-i : goal.bounds-table-i
-bounds-table-i c = (place (goal.at.bounds-table-i c).Start).entry
-
-pub offset_bounds-table-i-2 : goal.offset_bounds-table-i-2
-offset_bounds-table-i-2 c = omega (arith, (place (goal.at.offset_bounds-table-i-2 c).Start).small)
-
-pub bounds-table-i-2 : goal.bounds-table-i-2
-bounds-table-i-2 c = (place (goal.at.bounds-table-i-2 c).Start).entry
-
-pub note-requires : goal.note-requires
-note-requires c = let p = place (goal.at.note-requires c).Start in (p.risen, p.olds, p.rows, omega (arith, p.states), omega (arith, p.states))
-
 pub returns-then-e-was : goal.returns-then-e-was
 returns-then-e-was c = record { pushed = pushed_none (board c.args.game.now) c.args.game.now.arena.mode _; held = rw (pair_row (board c.args.game.now) c.args.b c.args.q c.args.r) c.if-e-was.true }
 
