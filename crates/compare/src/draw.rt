@@ -1,5 +1,5 @@
 // Marks and moves by number, each bit saying whether one is there, and by a row of pseudo-random numbers.
-ghost use Rattle.std.specs.Prelude.{◌+◌, ◌≤◌, ◌<◌, length};
+ghost use Rattle.std.specs.Prelude.{◌≤◌, length};
 
 // The largest automata drawn: 8 states, 4 letters, and all their triples (from, letter, to).
 pub const STATES: usize = 8;

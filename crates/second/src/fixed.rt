@@ -1,8 +1,5 @@
 // The winning set: the greatest X, of the least Y, of the greatest Z, of the positions from which one round leads a good
 // position into X, a bad one into Y and any other into Z.
-ghost use Rattle.std.specs.Prelude.{◌≤◌, ◌<◌};
-ghost use Rattle.automaton.specs.Limits.{most_letters, most_states};
-
 use super::rules;
 use super::rules::{Positions, Rules};
 use automaton::{Automaton, Mode};

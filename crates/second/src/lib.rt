@@ -7,8 +7,7 @@ mod fixed; // fixed.rt: the winning set, by nested fixed points
 mod round; // round.rt: one round of play on sets, Red's move and Blue's answer
 mod rules; // rules.rt: the rules of the modes and the moves, as sets of states
 
-ghost use Rattle.std.specs.Prelude.{◌≡◌, ◌*◌, ◌≤◌, ◌<◌, length};
-ghost use Rattle.automaton.specs.Limits.{most_states};
+ghost use Rattle.std.specs.Prelude.{◌≡◌, ◌*◌, ◌<◌, length};
 
 use self::rules::{Positions, Rules};
 use automaton::{Automaton, Mode, Refusal};

@@ -1,7 +1,7 @@
 // One round of play on a set of Spoiler's positions: Red moves, Blue answers by the same letter.
 // Duplicator's positions do not occur, so a Duplicator without moves is a Blue without an answer.
-ghost use Rattle.std.specs.Prelude.{◌≤◌, ◌<◌};
-ghost use Rattle.automaton.specs.Limits.{most_letters, most_states};
+ghost use Rattle.std.specs.Prelude.{◌<◌};
+ghost use Rattle.automaton.specs.Limits.{most_states};
 
 use super::rules;
 use super::rules::{Positions, Rules};

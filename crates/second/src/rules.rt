@@ -1,5 +1,5 @@
 // The rules of the modes and the moves of an automaton, as sets of states: bit q of a number is 1 if q is in the set.
-ghost use Rattle.std.specs.Prelude.{◌+◌, ◌*◌, ◌≤◌, ◌<◌, length};
+ghost use Rattle.std.specs.Prelude.{◌≤◌, ◌<◌, length};
 ghost use Rattle.automaton.specs.Limits.{most_letters, most_states};
 ghost use Rattle.second.specs.Moves.{Within};
 
