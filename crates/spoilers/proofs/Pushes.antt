@@ -7,7 +7,7 @@ use Rattle.words.proofs.Sets.{in_or-out}
 use Rattle.automaton.specs.declared.Mode.{Mode}
 use Rattle.automaton.specs.Board.{Board, accepts, Formed}
 use Rattle.simulation.specs.Moves.{Moves}
-use Rattle.simulation.specs.Position.{layers, pair}
+use Rattle.simulation.specs.Position.{layers, pair, pairs}
 use Rattle.simulation.specs.Rules.{turn, ceiling, game}
 use Rattle.simulation.proofs.Moves.{move-within}
 use Rattle.arena.specs.declared.game.Game.{Game}
@@ -117,14 +117,22 @@ module _ {g : Game} {s : Rising} {c : Column} (works : Working g s) (shape : Sha
 
 -- ---- a column
 
+-- one that no entry raises
+pub column_still : (B : Board) (m : Mode) {b r from bump : ℕ} (t : List ℕ) → Formed B → ((v : ℕ) → pairs B m ≤ v → at t v ≤ ceiling B m)
+    → ((b q r : ℕ) → b < layers m → q < B.n → r < B.n → ruled B m b q r 0 ≤ at t (pair B b q r))
+    → b < layers m → r < B.n → Asking B m b r from bump → ceiling B m < from → (a x : ℕ) → Heard B m b r a t x
+column_still B m {b} {r} t F cap floor hb hr asking high a x =
+    heard_below B m F b r a x hb hr asking t (cap _ (omega arith)) (λ q hq. floor b q r hb hq hr)
+    (omega (arith, high, cap (challenged B m b r x a) (omega arith)))
+
 module _ {g : Game} {b r : ℕ} {c : Column} where
   pub column-done : (t grown : List ℕ) → ColumnOf g b r c → ((a : ℕ) → a < g.arena.letters → Lettered (board g) g.arena.mode grown c.bit c.blue t a) → Columned (board g) g.arena.mode grown b t r
   column-done t grown (shape, e, d) all = rw (← e, ← d) all
 
-  -- a column that no entry raises
-  pub column_still : {s : Rising} → Working g s → ColumnOf g b r c → g.arena.top < c.rule.from → (a x : ℕ) → Heard (board g) g.arena.mode b r a s.table x
-  column_still {s} works (shape, e, d) high a x =
-      rw (← e, ← d) (small-heard works shape a x (omega (arith, high, shape.known.topped, works.capped (challenged (board g) g.arena.mode c.bit c.blue x a) (omega arith))))
+  -- such a one in a half under way
+  pub column-calm : {s : Rising} → Working g s → ColumnOf g b r c → g.arena.top < c.rule.from → (a x : ℕ) → Heard (board g) g.arena.mode b r a s.table x
+  column-calm {s} works (shape, e, d) high a x =
+      rw (← e, ← d) (column_still (board g) g.arena.mode s.table shape.known.formed works.capped works.floor shape.bit shape.blue shape.asking (omega (arith, high, shape.known.topped)) a x)
 
 -- ---- what is heeded stays so
 

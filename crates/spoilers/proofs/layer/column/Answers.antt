@@ -3,12 +3,12 @@ use Rattle.std.proofs.Common.{arith}
 use Rattle.words.proofs.Sets.{empty}
 use Rattle.arena.specs.Game.{board}
 use Rattle.spoilers.proofs.Parts.{pushed_none, pushed_then, working_kept, raising-most}
-use Rattle.spoilers.proofs.Pushes.{lettered_kept, column-done, column_still}
+use Rattle.spoilers.proofs.Pushes.{lettered_kept, column-done, column-calm}
 use Rattle.spoilers.proofs.Through.{upto_start, upto_more}
 use Rattle.spoilers.proofs.layer.column.Goals as goal
 
 pub returns-then-c-game : goal.returns-then-c-game
-returns-then-c-game c = record { pushed = pushed_none (board c.args.game.now) c.args.game.now.arena.mode _; columned = λ a ha x hx i. column_still c.requires.working c.of-c.ensures c.if-c-game.true a x }
+returns-then-c-game c = record { pushed = pushed_none (board c.args.game.now) c.args.game.now.arena.mode _; columned = λ a ha x hx i. column-calm c.requires.working c.of-c.ensures c.if-c-game.true a x }
 
 pub loop-a-init : goal.loop-a-init
 loop-a-init c = (upto_start _, λ q i. absurd (empty q i))

@@ -2,13 +2,13 @@
 use Rattle.std.proofs.Common.{arith}
 use Rattle.arena.specs.Game.{board}
 use Rattle.spoilers.proofs.Parts.{pushed_none, pushed_then, working_kept, raising-most}
-use Rattle.spoilers.proofs.Pushes.{column_still}
+use Rattle.spoilers.proofs.Pushes.{column-calm}
 use Rattle.spoilers.proofs.Pulls.{heeds_kept, heeds_column}
 use Rattle.spoilers.proofs.Through.{upto_more}
 use Rattle.spoilers.proofs.pulling.pull_column.Goals as goal
 
 pub returns-then-c-game : goal.returns-then-c-game
-returns-then-c-game c = record { pushed = pushed_none (board c.args.game.now) c.args.game.now.arena.mode _; column_heeds = λ q hq a x. column_still c.requires.working c.of-c.ensures c.if-c-game.true a x q }
+returns-then-c-game c = record { pushed = pushed_none (board c.args.game.now) c.args.game.now.arena.mode _; column_heeds = λ q hq a x. column-calm c.requires.working c.of-c.ensures c.if-c-game.true a x q }
 
 pub pull_one-rose-requires-clause-working : goal.pull_one-rose-requires-clause-working
 pull_one-rose-requires-clause-working c = let done = c.loop-q.invariant in working_kept c.requires.working done.pushed done.sized
