@@ -8,7 +8,7 @@ ghost use Rattle.automaton.specs.Limits.{most_letters, most_states};
 ghost use Rattle.asks.specs.Index.{Ascending, Indexed, key};
 
 use arena::Game;
-use automaton::{Automaton, wide};
+use automaton::{Automaton, Move};
 
 // The keys at the limits, and one more: where the moves end.
 pub const KEYS: usize = Automaton::STATES * Automaton::LETTERS + 1;
@@ -42,8 +42,8 @@ fn key_of(letters: usize, moves: &[u8], i: usize) -> usize
     requires move_in_moves { i * 3 + 2 < length moves.now }
     ensures { result ≡ key letters moves.now i }
 {
-    let at = i * 3;
-    wide(moves[at]) * letters + wide(moves[at + 1])
+    let Move { from, letter, .. } = Move::at(moves, i);
+    from * letters + letter
 }
 
 // The first move from i on whose key is x or more, and the number of moves if there is none.

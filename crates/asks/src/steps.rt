@@ -8,7 +8,7 @@ ghost use Rattle.asks.specs.Steps.{duplicator_steps, spoiler_steps, spot_of};
 use super::index::Index;
 use super::pair::Pair;
 use arena::{Arena, Game};
-use automaton::wide;
+use automaton::Move;
 
 // The moves from lo up to hi. One to the state r by the letter a leads to the position base + r · stride + a · step,
 // where the base is `marked` if r accepts and `plain` if not.
@@ -44,15 +44,13 @@ pub fn spot(s: Steps, game: &Game, i: usize) -> usize
         step,
         ..
     } = s;
-    let at = i * 3;
-    let letter = wide(game.moves[at + 1]);
-    let goal = wide(game.moves[at + 2]);
-    let base = if accepts(game.marks, goal) {
+    let Move { letter, to, .. } = Move::at(game.moves, i);
+    let base = if accepts(game.marks, to) {
         marked
     } else {
         plain
     };
-    base + goal * stride + letter * step
+    base + to * stride + letter * step
 }
 
 // The steps from Spoiler's pair: the moves from Red's state.

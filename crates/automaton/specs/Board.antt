@@ -2,6 +2,7 @@
 use Rattle.std.specs.Prelude.{◌≡◌, ◌⊎◌, Bool, false, ◌&&◌, ◌||◌, not, List, ℕ, zero, suc, ◌+◌, ◌*◌, ◌%◌, ◌≤◌, ◌<◌, eqb, ltb, length, get_or}
 use Rattle.automaton.specs.Limits.{most_states, most_letters}
 use Rattle.automaton.specs.declared.Automaton.{Automaton}
+use Rattle.automaton.specs.declared.Move.{Move}
 
 -- "States 0 to n-1 .. Letters 0 to k-1 .. One accept mark per state, 0 or 1";
 -- "Moves: bytes, three a move (from, letter, to) .. No moves at all is allowed."
@@ -28,6 +29,10 @@ letter ms i = get_or ms (i * 3 + 1) 0
 
 abbrev pub to : (moves : List ℕ) → ℕ → ℕ
 to ms i = get_or ms (i * 3 + 2) 0
+
+-- move i
+abbrev pub move_at : (moves : List ℕ) → ℕ → Move
+move_at ms i = record { from = from ms i; letter = letter ms i; to = to ms i }
 
 -- "a move's state is not below n or its letter not below k"
 abbrev pub outside : (n k : ℕ) → (moves : List ℕ) → ℕ → Bool

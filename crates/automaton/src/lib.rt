@@ -5,7 +5,7 @@
 ghost use Rattle.std.specs.Prelude.{◌≡◌, ◌+◌, ◌*◌, ◌/◌, ◌<◌, length};
 ghost use Rattle.std.specs.Option.{ok_or};
 ghost use Rattle.automaton.specs.Answer.{answered, done, number_of, place_of};
-ghost use Rattle.automaton.specs.Board.{above, board_of, outside, unsorted};
+ghost use Rattle.automaton.specs.Board.{board_of, move_at, outside, unsorted};
 ghost use Rattle.automaton.specs.Check.{checked, high, limited};
 ghost use Rattle.automaton.specs.First.{first_below};
 ghost use Rattle.automaton.specs.Limits.{name_of};
@@ -23,6 +23,30 @@ impl Automaton {
     pub const STATES: usize = 64;
 
     pub const LETTERS: usize = 16;
+}
+
+// The numbers of a move. They stand in the order by which moves ascend.
+#[derive(Clone, Copy, PartialEq, Eq, PartialOrd, Ord)]
+pub struct Move {
+    pub from: usize,
+    pub letter: usize,
+    pub to: usize,
+}
+
+impl Move {
+    // The move with this number.
+    #[inline]
+    pub fn at(moves: &[u8], i: usize) -> Move
+        requires { i * 3 + 2 < length moves.now }
+        ensures { result ≡ move_at moves.now i }
+    {
+        let at = i * 3;
+        Move {
+            from: wide(moves[at]),
+            letter: wide(moves[at + 1]),
+            to: wide(moves[at + 2]),
+        }
+    }
 }
 
 // The four games.
@@ -221,10 +245,8 @@ fn is_outside(a: Automaton, moves: &[u8], i: usize) -> bool
     requires { i * 3 + 2 < length moves.now }
     ensures { result ≡ outside a.states a.letters moves.now i }
 {
-    let at = i * 3;
-    a.states <= wide(moves[at])
-        || a.letters <= wide(moves[at + 1])
-        || a.states <= wide(moves[at + 2])
+    let Move { from, letter, to } = Move::at(moves, i);
+    a.states <= from || a.letters <= letter || a.states <= to
 }
 
 // The first move not above the one before it, if there is one.
@@ -239,29 +261,5 @@ fn is_unsorted(moves: &[u8], i: usize) -> bool
     requires { i * 3 + 2 < length moves.now }
     ensures { result ≡ unsorted moves.now i }
 {
-    if i == 0 {
-        return false;
-    }
-    let at = i * 3;
-    !is_above(
-        wide(moves[at - 3]),
-        wide(moves[at - 2]),
-        wide(moves[at - 1]),
-        wide(moves[at]),
-        wide(moves[at + 1]),
-        wide(moves[at + 2]),
-    )
-}
-
-// Is the move (x2, y2, z2) above (x, y, z)?
-pub fn is_above(x: usize, y: usize, z: usize, x2: usize, y2: usize, z2: usize) -> bool
-    ensures { result ≡ above x y z x2 y2 z2 }
-{
-    if x != x2 {
-        return x < x2;
-    }
-    if y != y2 {
-        return y < y2;
-    }
-    z < z2
+    0 < i && !(Move::at(moves, i - 1) < Move::at(moves, i))
 }

@@ -1,6 +1,6 @@
 -- "Lines end in a newline; fields are parted by tabs": the lines of a text, and what each says.
-use Rattle.std.specs.Prelude.{cond, List, [], ◌∷◌, ℕ, eqb, length, Option, Some, None, option_and_then}
-use Rattle.fields.specs.Bytes.{bytes_of, newline, same, tab}
+use Rattle.std.specs.Prelude.{cond, List, [], ◌∷◌, ℕ, eqb, length, Option, Some, None, option_and_then, bytes_eq}
+use Rattle.fields.specs.Bytes.{bytes_of, newline, tab}
 use Rattle.fields.specs.Numbers.{number_of}
 use Rattle.lines.specs.declared.line.Word.{Word}
 use Rattle.lines.specs.declared.line.Word.TheVariants as word
@@ -29,10 +29,10 @@ fields_of (Some rest) = cut tab rest
 -- the word that a field is: `automaton`, `mode`, `accept` or `move`
 unfoldable pub word_of : (field : List ℕ) → Option Word
 word_of f =
-    cond (same f (bytes_of "automaton")) (Some word.Automaton)
-    (cond (same f (bytes_of "mode")) (Some word.Mode)
-    (cond (same f (bytes_of "accept")) (Some word.Accept)
-    (cond (same f (bytes_of "move")) (Some word.Move)
+    cond (bytes_eq f (bytes_of "automaton")) (Some word.Automaton)
+    (cond (bytes_eq f (bytes_of "mode")) (Some word.Mode)
+    (cond (bytes_eq f (bytes_of "accept")) (Some word.Accept)
+    (cond (bytes_eq f (bytes_of "move")) (Some word.Move)
     None)))
 
 -- "`mode`, m"; "`accept`, q"

@@ -56,16 +56,17 @@ fn front(line: &[u8]) -> (&[u8], Option<&[u8]>)
 }
 
 // The word that a field is.
+#[tactic(auto, unfolding(crate::specs::Lines::word_of))]
 fn word_of(field: &[u8]) -> Option<Word>
     ensures { result ≡ word_of field.now }
 {
-    if check::same(field, b"automaton") {
+    if field == b"automaton".as_slice() {
         Some(Word::Automaton)
-    } else if check::same(field, b"mode") {
+    } else if field == b"mode".as_slice() {
         Some(Word::Mode)
-    } else if check::same(field, b"accept") {
+    } else if field == b"accept".as_slice() {
         Some(Word::Accept)
-    } else if check::same(field, b"move") {
+    } else if field == b"move".as_slice() {
         Some(Word::Move)
     } else {
         None

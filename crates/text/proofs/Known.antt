@@ -5,14 +5,14 @@ use lib.ListN.{get_or-append}
 use lib.Seq.{get_or_at}
 use Rattle.fields.proofs.Tests.{by_test}
 use Rattle.automaton.specs.declared.Automaton.{Automaton}
-use Rattle.automaton.specs.Board.{outside, unsorted}
+use Rattle.automaton.specs.declared.Move.{Move}
+use Rattle.automaton.specs.Board.{move_at, outside, unsorted}
 use Rattle.automaton.specs.First.{first, first_below}
 use Rattle.automaton.proofs.First.{first_more, first-lowest, first-same}
 use Rattle.automaton.proofs.Sound.{leb_not}
 use Rattle.lines.specs.declared.line.Line.{Line}
 use Rattle.lines.specs.declared.line.Line.TheVariants as line
 use Rattle.text.specs.declared.survey.Survey.{Survey}
-use Rattle.text.specs.declared.survey.Step.{Step}
 use Rattle.text.specs.Survey.{at_fault, ascends, rises, within, accepted_by, moved_by}
 use Rattle.text.specs.Text.{mode_after, accepts, moves, stray}
 use Rattle.text.proofs.Form.{taken_all, Following}
@@ -22,12 +22,9 @@ abbrev pub last_named : (count : ℕ) → (named : List ℕ) → Option ℕ
 last_named zero qs = None
 last_named (suc c) qs = Some (get_or qs c 0)
 
-abbrev pub step_at : (ms : List ℕ) → ℕ → Step
-step_at ms i = record { from = get_or ms (i * 3) 0; letter = get_or ms (i * 3 + 1) 0; to = get_or ms (i * 3 + 2) 0 }
-
-abbrev pub last_step : (count : ℕ) → (ms : List ℕ) → Option Step
+abbrev pub last_step : (count : ℕ) → (ms : List ℕ) → Option Move
 last_step zero ms = None
-last_step (suc c) ms = Some (step_at ms c)
+last_step (suc c) ms = Some (move_at ms c)
 
 -- the survey of an automaton line, a mode, the states named and the numbers of the moves
 abbrev pub known : Automaton → (mode : ℕ) → (named moves : List ℕ) → Survey
@@ -145,7 +142,7 @@ moved_known a m qs ms p x q w =
     let k = a.letters in
     let c = length ms / 3 in
     let l = ms ++ (p ∷ x ∷ q ∷ []) in
-    let t : Step = record { from = p; letter = x; to = q } in
+    let t : Move = record { from = p; letter = x; to = q } in
     let more : length l / 3 ≡ suc c = omega (arith, long ms p x q w) in
     let from : get_or l (c * 3) 0 ≡ p = new ms p x q w 0 (c * 3) (omega arith) in
     let letter : get_or l (c * 3 + 1) 0 ≡ x = new ms p x q w 1 (c * 3 + 1) (omega arith) in

@@ -2,6 +2,7 @@
 -- Functions below the call promise it to each other; no public promise cites it.
 use Rattle.std.specs.Prelude.{Bool, true, ◌&&◌, cond, List, [], ◌∷◌, ℕ, suc, ◌≤◌, ltb, leb, Option, Some, None, Result, Ok, Err}
 use Rattle.automaton.specs.declared.Automaton.{Automaton}
+use Rattle.automaton.specs.declared.Move.{Move}
 use Rattle.automaton.specs.declared.Refusal.{Refusal}
 use Rattle.automaton.specs.declared.Refusal.TheVariants.{Marks, Start, Outside, Unsorted, LineForm}
 use Rattle.automaton.specs.Answer.{Fault, none, fault, fails}
@@ -9,7 +10,6 @@ use Rattle.automaton.specs.Board.{above}
 use Rattle.automaton.specs.Check.{states_fault, letters_fault, mode_fault}
 use Rattle.lines.specs.declared.line.Line.{Line}
 use Rattle.lines.specs.declared.line.Line.TheVariants as line
-use Rattle.text.specs.declared.survey.Step.{Step}
 use Rattle.text.specs.declared.survey.Survey.{Survey}
 use Rattle.text.specs.Order.{stands}
 use Rattle.text.specs.Text.{unsaid, limits_fault}
@@ -32,11 +32,11 @@ abbrev pub ascends : (before : Option ℕ) → (state : ℕ) → Bool
 ascends None q = true
 ascends (Some p) q = ltb p q
 
-abbrev pub rises : (before : Option Step) → Step → Bool
+abbrev pub rises : (before : Option Move) → Move → Bool
 rises None t = true
 rises (Some s) t = above s.from s.letter s.to t.from t.letter t.to
 
-abbrev pub within : Step → Automaton → Bool
+abbrev pub within : Move → Automaton → Bool
 within t a = ltb t.from a.states && ltb t.letter a.letters && ltb t.to a.states
 
 abbrev pub blank : Survey
@@ -61,7 +61,7 @@ accepted_by s q =
       strayed = at_fault s.strayed s.accepts (ascends s.last_accept q && ltb q s.automaton.states);
     }
 
-abbrev pub moved_by : Survey → Step → Survey
+abbrev pub moved_by : Survey → Move → Survey
 moved_by s t =
     record s {
       moves = suc s.moves;

@@ -4,17 +4,9 @@ ghost use Rattle.lines.specs.Lines.{lines_of};
 ghost use Rattle.text.specs.Order.{order as order_of, repeats as repeats_of, stands as stands_of};
 ghost use Rattle.text.specs.Survey.{Few, most, at_fault as at_fault_of, ascends as ascends_of, rises as rises_of, within as within_of, accepted_by, moved_by, taken, surveyed, blank as blank_of};
 
-use automaton::{Automaton, Refusal};
+use automaton::{Automaton, Move, Refusal};
 use lines::line::Line;
 use lines::reader::Reader;
-
-// The numbers of a move.
-#[derive(Clone, Copy)]
-pub struct Step {
-    pub from: usize,
-    pub letter: usize,
-    pub to: usize,
-}
 
 // What the lines so far say. `strayed`, `outside` and `unsorted` are the numbers of the first accept and move lines at fault.
 #[derive(Clone, Copy)]
@@ -25,7 +17,7 @@ pub struct Survey {
     pub last_accept: Option<usize>,
     pub strayed: Option<usize>,
     pub moves: usize,
-    pub last_move: Option<Step>,
+    pub last_move: Option<Move>,
     pub outside: Option<usize>,
     pub unsorted: Option<usize>,
 }
@@ -96,7 +88,7 @@ impl Survey {
             },
             Line::Mode(mode) => Survey { mode, ..self },
             Line::Accept(state) => self.with_accept(state),
-            Line::Move(from, letter, to) => self.with_move(Step { from, letter, to }),
+            Line::Move(from, letter, to) => self.with_move(Move { from, letter, to }),
         }
     }
 
@@ -115,15 +107,15 @@ impl Survey {
     }
 
     // One move line more: inside the automaton or not, above the one before or not.
-    fn with_move(self, step: Step) -> Survey
+    fn with_move(self, step: Move) -> Survey
         requires { self.moves ≤ most }
         ensures { result ≡ moved_by self step }
     {
         Survey {
             moves: self.moves + 1,
             last_move: Some(step),
-            outside: at_fault(self.outside, self.moves, step.within(self.automaton)),
-            unsorted: at_fault(self.unsorted, self.moves, step.rises(self.last_move)),
+            outside: at_fault(self.outside, self.moves, within(step, self.automaton)),
+            unsorted: at_fault(self.unsorted, self.moves, rises(self.last_move, step)),
             ..self
         }
     }
@@ -169,30 +161,21 @@ fn ascends(before: Option<usize>, state: usize) -> bool
     }
 }
 
-impl Step {
-    // Is the move above the one before? The first has none before it.
-    fn rises(self, before: Option<Step>) -> bool
-        ensures { result ≡ rises_of before self }
-    {
-        match before {
-            Some(last) => automaton::is_above(
-                last.from,
-                last.letter,
-                last.to,
-                self.from,
-                self.letter,
-                self.to,
-            ),
-            None => true,
-        }
+// Is the move above the one before? The first has none before it.
+fn rises(before: Option<Move>, step: Move) -> bool
+    ensures { result ≡ rises_of before step }
+{
+    match before {
+        Some(last) => last < step,
+        None => true,
     }
+}
 
-    // Are its states and its letter the automaton's?
-    fn within(self, a: Automaton) -> bool
-        ensures { result ≡ within_of self a }
-    {
-        self.from < a.states && self.letter < a.letters && self.to < a.states
-    }
+// Are the states and the letter of the move the automaton's?
+fn within(step: Move, a: Automaton) -> bool
+    ensures { result ≡ within_of step a }
+{
+    step.from < a.states && step.letter < a.letters && step.to < a.states
 }
 
 // The number of the first at fault, when the next one, of this number, is fine or not.

@@ -1,6 +1,5 @@
 // Blue's best move: one pass over the moves, which keeps only the best so far.
-ghost use Rattle.std.specs.Prelude.{◌≡◌, ◌&&◌, ◌+◌, ◌*◌, ◌<◌, eqb, length};
-ghost use Rattle.automaton.specs.Board.{from, letter};
+ghost use Rattle.std.specs.Prelude.{◌≡◌, ◌<◌};
 ghost use Rattle.simulation.specs.Answers.{entry_after};
 ghost use Rattle.simulation.specs.Moves.{targets};
 ghost use Rattle.simulation.specs.Position.{layers};
@@ -9,7 +8,7 @@ ghost use Rattle.arena.specs.Seats.{bare, Seated};
 ghost use Rattle.verdicts.specs.Best.{best_of, improved};
 
 use arena::Game;
-use automaton::wide;
+use automaton::Move;
 
 // A move of Blue's: the state that it leads to, and the entry there.
 #[derive(Clone, Copy)]
@@ -26,14 +25,6 @@ fn improve(best: Option<Best>, state: usize, entry: u32) -> Best
         Some(held) if held.entry <= entry => held,
         _ => Best { state, entry },
     }
-}
-
-// Is move i one from r by the letter a?
-fn leaves(moves: &[u8], r: usize, a: usize, i: usize) -> bool
-    requires { i * 3 + 2 < length moves.now }
-    ensures { result ≡ (eqb (from moves.now i) r && eqb (letter moves.now i) a) }
-{
-    wide(moves[i * 3]) == r && wide(moves[i * 3 + 1]) == a
 }
 
 // The entry where Blue's move to the state s leads, Red standing on q.
@@ -53,12 +44,11 @@ pub fn scan(game: &Game, table: &[u32], b: usize, q: usize, r: usize, a: usize) 
     requires position { (b < layers game.now.arena.mode) × (q < game.now.arena.states) }
     ensures { result ≡ best_of (entry_after (board game.now) game.now.arena.mode table.now b q) None (targets (board game.now) r a) }
 {
-    let moves = game.moves;
     let mut best = None;
-    for i in 0..moves.len() / 3 {
-        if leaves(moves, r, a, i) {
-            let s = wide(moves[i * 3 + 2]);
-            best = Some(improve(best, s, entry_after(game, table, b, q, s)));
+    for i in 0..game.moves.len() / 3 {
+        let Move { from, letter, to } = Move::at(game.moves, i);
+        if (from, letter) == (r, a) {
+            best = Some(improve(best, to, entry_after(game, table, b, q, to)));
         }
     }
     best
