@@ -1,6 +1,8 @@
 // Marks and moves by number, each bit saying whether one is there, and by a row of pseudo-random numbers.
 ghost use Rattle.std.specs.Prelude.{◌≤◌, length};
 
+use automaton::Move;
+
 // The largest automata drawn: 8 states, 4 letters, and all their triples (from, letter, to).
 pub const STATES: usize = 8;
 
@@ -61,24 +63,14 @@ impl Random {
     }
 }
 
-// A move, or the place of one among the triples.
-#[derive(Clone, Copy)]
-struct Triple {
-    from: usize,
-    letter: usize,
-    to: usize,
-}
-
-impl Triple {
-    // The triple with a number, in ascending order.
-    fn at(number: usize, states: usize, letters: usize) -> Triple {
-        let states = states.max(1);
-        let letters = letters.max(1);
-        Triple {
-            from: number / states / letters,
-            letter: number / states % letters,
-            to: number % states,
-        }
+// The move that is the triple with a number, in ascending order.
+fn triple(number: usize, states: usize, letters: usize) -> Move {
+    let states = states.max(1);
+    let letters = letters.max(1);
+    Move {
+        from: number / states / letters,
+        letter: number / states % letters,
+        to: number % states,
     }
 }
 
@@ -91,7 +83,7 @@ pub fn moves_of(states: usize, letters: usize, present: &[u8; TRIPLES], moves: &
         if *mark != 1 || moves.len() - bytes < 3 {
             continue;
         }
-        let t = Triple::at(number, states, letters);
+        let t = triple(number, states, letters);
         if t.from < states {
             moves[bytes] = (t.from % 256) as u8;
             moves[bytes + 1] = (t.letter % 256) as u8;

@@ -73,7 +73,7 @@ fn promise(play: &Play, number: Option<usize>, place: Place, entries: &[u32], to
 // The promises of a table at rest, in delayed and in fair mode.
 fn promises(job: &Job, entries: &[u32], top: usize) -> Seen {
     let mut seen = Seen::default();
-    if job.mode == Mode::ORDINARY || job.mode == Mode::DIRECT {
+    if matches!(job.mode, Mode::ORDINARY | Mode::DIRECT) {
         return seen;
     }
     let play = Play {
