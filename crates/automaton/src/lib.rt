@@ -245,8 +245,10 @@ fn is_outside(a: Automaton, moves: &[u8], i: usize) -> bool
     requires { i * 3 + 2 < length moves.now }
     ensures { result ≡ outside a.states a.letters moves.now i }
 {
-    let Move { from, letter, to } = Move::at(moves, i);
-    a.states <= from || a.letters <= letter || a.states <= to
+    let at = i * 3;
+    a.states <= wide(moves[at])
+        || a.letters <= wide(moves[at + 1])
+        || a.states <= wide(moves[at + 2])
 }
 
 // The first move not above the one before it, if there is one.
