@@ -49,7 +49,7 @@
  * What the caller owes, and nothing tests: a pointer is valid for the length after it, counted in elements, and aligned
  * for them; a buffer that is written to overlaps no other; nobody else writes to a lent buffer during the call. A pointer
  * whose length is 0 is not followed, and may be null. The stack has room for 128 KB, the most that a call was seen to need
- * being 102,359 bytes (docs/PERFORMANCE.md has it for each).
+ * being 102,567 bytes (docs/PERFORMANCE.md has it for each).
  *
  * No function keeps anything between calls, allocates memory or fails in any other way than by a number of refusal. All of
  * them end. Nothing is proved of their time; docs/PERFORMANCE.md has what lucorphane_settle took on automata made to be slow.
