@@ -1,5 +1,5 @@
 -- The header of a Hanoi file as the format writes it: `HOA: v1`, then headers in any order, then `--BODY--`.
-use Rattle.std.specs.Prelude.{◌≡◌, true, false, ℕ, zero, suc, ◌≤◌, Some, None}
+use Rattle.std.specs.Prelude.{◌≡◌, true, false, ℕ, zero, suc, ◌≤◌, Some, None, is_some}
 use Rattle.std.specs.Option.{unwrap_or}
 use Rattle.tokens.specs.declared.Token.{Token}
 use Rattle.tokens.specs.declared.Sort.TheVariants as sort
@@ -34,6 +34,7 @@ pub record Whole (s : Said) (h : Header) : Type 0 where
   pub states : s.states ≡ Some h.states
   pub start : s.start ≡ Some h.start
   pub props : unwrap_or s.props 0 ≡ h.props
+  pub named : is_some s.props ≡ h.named
   pub acceptance : s.accepting ≡ true
 
 module _ (T : ℕ → Token) where
