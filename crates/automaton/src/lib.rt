@@ -266,9 +266,15 @@ fn is_unsorted(moves: &[u8], i: usize) -> bool
     0 < i && !is_above(Move::at(moves, i - 1), Move::at(moves, i))
 }
 
-// Is the second move above the first: by from, then letter, then to?
+// Is the second move above the first: by from, then letter, then to? By hand, since every call asks it of every move and the derived order is slower.
 pub fn is_above(first: Move, second: Move) -> bool
     ensures { result ≡ above first.from first.letter first.to second.from second.letter second.to }
 {
-    first < second
+    if first.from != second.from {
+        return first.from < second.from;
+    }
+    if first.letter != second.letter {
+        return first.letter < second.letter;
+    }
+    first.to < second.to
 }
