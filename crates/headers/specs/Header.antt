@@ -29,7 +29,7 @@ with_acceptance s = record s { accepting = true }
 abbrev pub most_props : ℕ
 most_props = 4
 
--- "`States:`, one `Start:`, `Acceptance: 1 Inf(0)`": all that is required was said, and so the header says h; without `AP:` there are no propositions
+-- "`States:`, one `Start:`, `Acceptance: 1 Inf(0)`": all that is required was said, and so the header says h, with whether `AP:` stood; without it there are no propositions
 pub record Whole (s : Said) (h : Header) : Type 0 where
   pub states : s.states ≡ Some h.states
   pub start : s.start ≡ Some h.start

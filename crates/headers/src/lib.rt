@@ -12,7 +12,7 @@ ghost use Rattle.headers.specs.declared.Wanted.TheVariants.{Format};
 use automaton::Refusal;
 use tokens::Sort;
 
-// What a header says: how many states there are, the one to start in, how many propositions there are, and whether it names them.
+// What a header says: how many states there are, the one to start in, how many propositions there are, and whether `AP:` stood.
 #[derive(Clone, Copy)]
 pub struct Header {
     pub states: usize,
