@@ -1,5 +1,5 @@
 -- What reading pairs off a table needs of an arena, its marks and the table. It takes no moves: its board is the one without any.
--- Functions below the calls promise it to each other; no public promise cites it.
+-- `Seating` promises by it; no promise of a call cites it.
 use Rattle.std.specs.Prelude.{◌≡◌, List, [], ℕ, ◌*◌, ◌≤◌, length}
 use Rattle.automaton.specs.Board.{Board}
 use Rattle.automaton.specs.Limits.{most_states}

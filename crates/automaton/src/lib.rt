@@ -5,7 +5,7 @@
 ghost use Rattle.std.specs.Prelude.{◌≡◌, ◌+◌, ◌*◌, ◌/◌, ◌<◌, length};
 ghost use Rattle.std.specs.Option.{ok_or};
 ghost use Rattle.automaton.specs.Answer.{answered, done, number_of, place_of};
-ghost use Rattle.automaton.specs.Board.{board_of, move_at, outside, unsorted};
+ghost use Rattle.automaton.specs.Board.{above, board_of, move_at, outside, unsorted};
 ghost use Rattle.automaton.specs.Check.{checked, high, limited};
 ghost use Rattle.automaton.specs.First.{first_below};
 ghost use Rattle.automaton.specs.Limits.{name_of};
@@ -263,5 +263,18 @@ fn is_unsorted(moves: &[u8], i: usize) -> bool
     requires { i * 3 + 2 < length moves.now }
     ensures { result ≡ unsorted moves.now i }
 {
-    0 < i && !(Move::at(moves, i - 1) < Move::at(moves, i))
+    0 < i && !is_above(Move::at(moves, i - 1), Move::at(moves, i))
+}
+
+// Is the second move above the first: by from, then letter, then to? By hand, since every call asks it of every move and the derived order is slower.
+pub fn is_above(first: Move, second: Move) -> bool
+    ensures { result ≡ above first.from first.letter first.to second.from second.letter second.to }
+{
+    if first.from != second.from {
+        return first.from < second.from;
+    }
+    if first.letter != second.letter {
+        return first.letter < second.letter;
+    }
+    first.to < second.to
 }

@@ -69,6 +69,7 @@ fn read_body(
         states,
         start,
         props,
+        ..
     } = headed.header;
     let mut sheet = [Entry::Unlisted; bodies::NUMBERS];
     let mut seen = [0u8; triples::TRIPLES];

@@ -15,7 +15,7 @@ module _ (T : ℕ → Token) {h : Header} {j : ℕ} where
   header_read H =
       leads-to T Version unsaid (simp H.format.0) H.format.1
       (leads-to T Item unsaid (simp H.version.0) H.version.1
-      (items-read T H.items (λ v b. over (b H.said (T H.after_items).sort (simp H.body.0) ∙ simp (H.body.0, H.whole.states, H.whole.start, H.whole.acceptance, H.whole.props)) H.body.1) Item item-between))
+      (items-read T H.items (λ v b. over (b H.said (T H.after_items).sort (simp H.body.0) ∙ simp (H.body.0, H.whole.states, H.whole.start, H.whole.acceptance, H.whole.props, H.whole.named)) H.body.1) Item item-between))
 
   pub read-header : Walk T Format unsaid 0 (held h j) → IsHeader T h j
   read-header k =

@@ -113,9 +113,9 @@ module _ (T : ℕ → Token) (m : Header) (j : ℕ) where
     ended : (T i).sort ≡ sort.Body → Led (whole s) (T i).next → Rest s i
     ended e l = go s.states s.start s.accepting refl refl refl l
       where
-        go : (n q : Option ℕ) (b : Bool) → s.states ≡ n → s.start ≡ q → s.accepting ≡ b → Led (required n q b (unwrap_or s.props 0)) (T i).next → Rest s i
+        go : (n q : Option ℕ) (b : Bool) → s.states ≡ n → s.start ≡ q → s.accepting ≡ b → Led (required n q b s.props) (T i).next → Rest s i
         go (Some n) (Some q) true a b c l =
-            let said : Whole s (record { states = n; start = q; props = unwrap_or s.props 0 }) = record { states = a; start = b; props = refl; acceptance = c } in
+            let said : Whole s (record { states = n; start = q; props = unwrap_or s.props 0; named = is_some s.props }) = record { states = a; start = b; props = refl; named = refl; acceptance = c } in
             record { end = i; said = s; items = no_item; whole = subst (Whole s) l.0 said; body = (e, l.1) }
         go _ _ _ a b c l = absurd l
 

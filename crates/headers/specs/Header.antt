@@ -1,5 +1,5 @@
 -- The header of a Hanoi file as the format writes it: `HOA: v1`, then headers in any order, then `--BODY--`.
-use Rattle.std.specs.Prelude.{◌≡◌, true, false, ℕ, zero, suc, ◌≤◌, Some, None}
+use Rattle.std.specs.Prelude.{◌≡◌, true, false, ℕ, zero, suc, ◌≤◌, Some, None, is_some}
 use Rattle.std.specs.Option.{unwrap_or}
 use Rattle.tokens.specs.declared.Token.{Token}
 use Rattle.tokens.specs.declared.Sort.TheVariants as sort
@@ -29,11 +29,12 @@ with_acceptance s = record s { accepting = true }
 abbrev pub most_props : ℕ
 most_props = 4
 
--- "`States:`, one `Start:`, `Acceptance: 1 Inf(0)`": all that is required was said, and so the header says h; without `AP:` there are no propositions
+-- "`States:`, one `Start:`, `Acceptance: 1 Inf(0)`": all that is required was said, and so the header says h, with whether `AP:` stood; without it there are no propositions
 pub record Whole (s : Said) (h : Header) : Type 0 where
   pub states : s.states ≡ Some h.states
   pub start : s.start ≡ Some h.start
   pub props : unwrap_or s.props 0 ≡ h.props
+  pub named : is_some s.props ≡ h.named
   pub acceptance : s.accepting ≡ true
 
 module _ (T : ℕ → Token) where

@@ -20,12 +20,12 @@ abbrev pub once : (stood : Bool) → Wanted → Said → Option Next
 once stood w s = cond stood None (onto w s)
 
 -- "A missing required header is 23 at `--BODY--`"
-abbrev pub required : (states start : Option ℕ) → (accepting : Bool) → (props : ℕ) → Option Next
-required (Some n) (Some q) true p = Some (Body (record { states = n; start = q; props = p }))
+abbrev pub required : (states start : Option ℕ) → (accepting : Bool) → (props : Option ℕ) → Option Next
+required (Some n) (Some q) true p = Some (Body (record { states = n; start = q; props = unwrap_or p 0; named = is_some p }))
 required _ _ _ p = None
 
 abbrev pub whole : Said → Option Next
-whole s = required s.states s.start s.accepting (unwrap_or s.props 0)
+whole s = required s.states s.start s.accepting s.props
 
 -- where a header word is wanted
 abbrev pub item : Said → Sort → Option Next

@@ -12,12 +12,13 @@ ghost use Rattle.headers.specs.declared.Wanted.TheVariants.{Format};
 use automaton::Refusal;
 use tokens::Sort;
 
-// What a header says: how many states there are, the one to start in, and how many propositions there are.
+// What a header says: how many states there are, the one to start in, how many propositions there are, and whether `AP:` stood.
 #[derive(Clone, Copy)]
 pub struct Header {
     pub states: usize,
     pub start: usize,
     pub props: usize,
+    pub named: bool,
 }
 
 // What a header has said so far, by those that may stand once.
@@ -176,6 +177,7 @@ fn whole(said: Said) -> Option<Next>
             states,
             start,
             props: said.props.unwrap_or(0),
+            named: said.props.is_some(),
         })),
         _ => None,
     }

@@ -11,6 +11,8 @@ pub returns : goal.returns
 returns c =
     let test = unsorted c.args.moves.now in
     let count : ℕ = length c.args.moves.now / 3 in
+    let e =
     sym (option_map_id _)
     ∙ find_from_yields_List test _ _ c.find.result c.find.ensures.ran (YieldsList-from_range 0 count count refl (omega arith)) (λ x b q k. search (rules, tests))
-    ∙ first_below-find test count
+    ∙ first_below-find test count in
+    grind (arith, e)

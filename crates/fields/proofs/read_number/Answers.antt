@@ -1,7 +1,7 @@
 -- `fields::read_number` meets its contract: the digits left, read after the value so far, say what the whole field says.
 use Rattle.std.proofs.Common.{arith, rules}
 use Rattle.fields.proofs.Digits.{digit-end, digit-high, digit-on, digit_low, digit_much}
-use Rattle.fields.proofs.read_number.Goals.{else-field-gt1-via-then-field-gt1+else-field-eq48, else-field-gt1-via-else-field-gt1, then-byte-lt48-via-then-byte-lt48, then-byte-lt48-via-else-byte-lt48+then-byte-gt57}
+use Rattle.fields.proofs.read_number.Goals.{then-byte-lt48-via-then-byte-lt48, then-byte-lt48-via-else-byte-lt48+then-byte-gt57}
 use Rattle.fields.proofs.read_number.Goals as goal
 
 pub returns-then-byte-lt48 : goal.returns-then-byte-lt48

@@ -40,7 +40,8 @@ returns c =
     let v = c.args.position in
     let same = c.filled-index.ensures in
     let e = both (sym (lifted_in game t v low (omega (arith, c.if-table-position.false, c.requires.entries)))) in
+    let told = ap valued (c.lift.ensures.value ∙ ap (λ (g : lent.Game). rise (played g) t v) same) ∙ e.0 in
     record {
-      result_value = ap valued (c.lift.ensures.value ∙ ap (λ (g : lent.Game). rise (played g) t v) same) ∙ e.0;
+      result_value = grind (arith, told);
       table_after = c.lift.ensures.table_after ∙ ap (λ (g : lent.Game). lift (played g) t v) same ∙ e.1;
     }

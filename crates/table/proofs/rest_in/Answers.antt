@@ -1,5 +1,5 @@
 -- `table::rest_in` meets its contract: refusal 10 is decided first, then the lowest position not at rest is looked for.
-use Rattle.std.proofs.Common.{◌≡◌, sym, ap, ◌∙◌, ℕ, Some, None, length}
+use Rattle.std.proofs.Common.{◌≡◌, sym, ap, ◌∙◌, arith, ℕ, Some, None, length}
 use Rattle.games.specs.Game.{Game}
 use Rattle.automaton.specs.Answer.{none}
 use Rattle.automaton.specs.First.{first_below}
@@ -26,9 +26,9 @@ returns c =
     let t = c.args.table.now in
     let not-above : None ≡ first_below (above game.T t) (length t) = c.in_default.ensures ∙ ap (λ (T : ℕ). first_below (above T t) (length t)) c.requires.topped in
     let low : entry_fault game t ≡ none = fails_at-none AboveCeiling (above game.T t) (length t) not-above in
-    ap found (
+    let lowest =
     c.first_restless.ensures
     ∙ ap (λ (g : lent.Game). first_below (restless (played g) t) (length t)) c.filled-index.ensures
-    ∙ ap (first_below (restless game t)) c.requires.entries
-    )
-    ∙ sym (rested-found game t low)
+    ∙ ap (first_below (restless game t)) c.requires.entries in
+    let e = ap found lowest ∙ sym (rested-found game t low) in
+    grind (arith, e)
